@@ -1,0 +1,2 @@
+pub mod IpPrefix
+pub mod Text
