@@ -1,1 +1,5 @@
 pub mod PrefixLemmas
+pub mod TextLemmas
+pub mod AddressLemmas
+pub mod PrefixTextLemmas
+pub mod WritingLemmas

@@ -54,6 +54,13 @@ taken len octets more le count =
     prefix_at-cons len (octets ++ more) le (omega (arith, length-append octets more))
     ∙ ap (λ (front : List ℕ). Some (record { addr = masked (address_of_octets front) len; len = len }, 1 + octets_for len)) (take_at octets more (octets_for len) count)
 
+abbrev found : IpPrefix → ℕ → Option (IpPrefix × ℕ)
+found p n = Some (p, n)
+
+-- a prefix that is read, by its parts
+same_found : (p : IpPrefix) (addr m n : ℕ) → addr ≡ p.addr → m ≡ n → found (record { addr = addr; len = p.len }) m ≡ found p n
+same_found p addr m n e f = rw (e, f) refl
+
 pub read_again : (p : IpPrefix) (more : List ℕ) → IsPrefix p → prefix_at (prefix_octets p ++ more) ≡ Some (p, length (prefix_octets p))
 read_again p more form =
     let octets = take (octets_for p.len) (to_be_bytes w32 p.addr) in
@@ -61,9 +68,7 @@ read_again p more form =
     let count : length octets ≡ octets_for p.len = omega (arith, length-take (octets_for p.len) (to_be_bytes w32 p.addr)) in
     let address : masked (address_of_octets octets) p.len ≡ p.addr = ap (λ (a : ℕ). masked a p.len) (octets-address p form) ∙ form.rest_is_zero in
     let all : 1 + octets_for p.len ≡ length (prefix_octets p) = omega (arith, count) in
-    taken p.len octets more le count
-    ∙ ap (λ (a : ℕ). Some (record { addr = a; len = p.len }, 1 + octets_for p.len)) address
-    ∙ ap (λ (n : ℕ). Some (p, n)) all
+    taken p.len octets more le count ∙ same_found p _ _ _ address all
 
 same_front : (p q : IpPrefix) (x y : List ℕ) → IsPrefix p → IsPrefix q → prefix_octets p ++ x ≡ prefix_octets q ++ y → p ≡ q
 same_front p q x y first second e =

@@ -1,10 +1,9 @@
 -- Texts of numbers, addresses and prefixes: the one text of each value, and what a text says.
-use Rattle.std.specs.Prelude.{◌≡◌, ℕ, ◌*◌, ◌+◌, ◌^◌, ◌<◌, ◌≤◌, ◌==◌, ◌&&◌, Bool, false, not, List, [], ◌∷◌, ◌++◌, map, Option, Some, None, nat_lt, if◌then◌else◌, option_and_then}
+use Rattle.std.specs.Prelude.{◌≡◌, ℕ, ◌+◌, ◌^◌, ◌<◌, ◌==◌, ◌&&◌, Bool, false, not, List, [], ◌∷◌, ◌++◌, length, take, drop, map, Option, Some, None, nat_lt, if◌then◌else◌, option_and_then}
 use Rattle.std.specs.Char.{is_ascii_digit}
 use Rattle.std.specs.Fmt.{decimal}
 use Rattle.std.specs.Int.{w32, to_be_bytes, from_be_bytes}
-use Rattle.std.specs.List.{slice_split, join_with_byte}
-use Rattle.std.specs.Str.{all_ascii_digits}
+use Rattle.std.specs.List.{list_all, slice_split, join_with_byte}
 use Rattle.std.specs.Str.Parse.{digits_value}
 use Rattle.rcp_base.specs.IpPrefix.{IpPrefix, prefix_of}
 
@@ -27,7 +26,7 @@ prefix_text p = address_text p.addr ++ slash ∷ decimal p.len
 abbrev pub is_number : List ℕ → Bool
 is_number [] = false
 is_number (c ∷ []) = is_ascii_digit c
-is_number (c ∷ d ∷ cs) = not (c == 48) && all_ascii_digits (c ∷ d ∷ cs)
+is_number (c ∷ d ∷ cs) = not (c == 48) && list_all is_ascii_digit (c ∷ d ∷ cs)
 
 -- the number of a text: none where it is no number, or one of 2 ^ 64 or more
 abbrev pub number_of : List ℕ → Option ℕ
@@ -56,3 +55,15 @@ prefix_of_parts parts = None
 -- the prefix of a text: none where it isn't an address, a slash and a number of at most 32
 abbrev pub prefix_of_text : List ℕ → Option IpPrefix
 prefix_of_text text = prefix_of_parts (slice_split (λ c. c == slash) text)
+
+-- the text is an address, a slash and a length, and p is their prefix: bits after the length don't matter
+pub record SpellsPrefix (text : List ℕ) (p : IpPrefix) : Type 0 where
+  pub addr : ℕ
+  pub len : ℕ
+  pub fits : addr < 2 ^ 32
+  pub spelled : text ≡ address_text addr ++ slash ∷ decimal len
+  pub prefix : prefix_of addr len ≡ Some p
+
+-- octets with a text written over them from a place on
+abbrev pub written_at : ℕ → List ℕ → List ℕ → List ℕ
+written_at place text octets = take place octets ++ (text ++ drop (place + length text) octets)

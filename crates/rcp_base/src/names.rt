@@ -1,5 +1,8 @@
 //! Addresses, router IDs, slots and members.
 
+ghost use Rattle.std.specs.Prelude.{Some};
+ghost use Rattle.rcp_base.specs.Text.{address_text};
+
 use std::fmt;
 
 /// An IP address of version 4, first octet highest.
@@ -21,19 +24,20 @@ pub struct Member {
     pub bgp_id: Addr,
 }
 
-fn write_dotted<W: fmt::Write>(number: u32, f: &mut fmt::Formatter<W>) -> fmt::Result {
-    let [a, b, c, d] = number.to_be_bytes();
-    write!(f, "{a}.{b}.{c}.{d}")
-}
-
 impl fmt::Display for Addr {
+    ghost output = { λ a. Some (address_text a.0) };
+
     fn fmt<W: fmt::Write>(&self, f: &mut fmt::Formatter<W>) -> fmt::Result {
-        write_dotted(self.0, f)
+        let [a, b, c, d] = self.0.to_be_bytes();
+        write!(f, "{a}.{b}.{c}.{d}")
     }
 }
 
 impl fmt::Display for RouterId {
+    ghost output = { λ r. Some (address_text r.0) };
+
     fn fmt<W: fmt::Write>(&self, f: &mut fmt::Formatter<W>) -> fmt::Result {
-        write_dotted(self.0, f)
+        let [a, b, c, d] = self.0.to_be_bytes();
+        write!(f, "{a}.{b}.{c}.{d}")
     }
 }

@@ -2,6 +2,7 @@
 
 ghost use Rattle.std.specs.Prelude.{◌≡◌, ℕ, ◌+◌, ◌<◌, ◌≤◌, List, ◌++◌, length, drop, Some, IfSome};
 ghost use Rattle.rcp_base.specs.IpPrefix.{IpPrefix, IsPrefix, prefix_of, prefix_at, octets_for, address_of_octets, prefix_octets, shard_of_prefix};
+ghost use Rattle.rcp_base.specs.Text.{prefix_text};
 
 use crate::names::Addr;
 use std::fmt;
@@ -88,6 +89,8 @@ impl Prefix {
 }
 
 impl fmt::Display for Prefix {
+    ghost output = { λ p. Some (prefix_text p) };
+
     fn fmt<W: fmt::Write>(&self, f: &mut fmt::Formatter<W>) -> fmt::Result {
         let address = Addr(self.addr);
         let len = self.len;

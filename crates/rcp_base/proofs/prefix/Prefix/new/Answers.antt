@@ -1,5 +1,4 @@
-use Rattle.std.proofs.Common.{rules, ap, ◌∙◌, arith, subst, sym, ℕ, ◌≡◌, ◌%◌, ◌^◌, ◌*◌, ◌/◌, ◌-◌}
-use Rattle.rcp_base.specs.IpPrefix.{IpPrefix, IsPrefix, masked}
+use Rattle.std.proofs.Common.{arith}
 use Rattle.rcp_base.proofs.PrefixLemmas.{masked_by_shifts, IsPrefix-masked}
 use Rattle.rcp_base.proofs.prefix.Prefix.new.Goals as goal
 
