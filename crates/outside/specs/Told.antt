@@ -1,0 +1,46 @@
+-- The words of the traits of the outside: counts that never fall, and octets that are told or not.
+use Rattle.std.specs.Prelude.{◌≡◌, refl, ℕ, ◌+◌, ◌-◌, ◌^◌, ◌≤◌, min, List, [], ◌++◌, Option, None, Some}
+use Rattle.std.proofs.Common.{ap, sym, append_assoc, append-nil}
+
+-- one more, or the last value that a count of 64 bits has
+abbrev pub raised : ℕ → ℕ
+raised count = min (count + 1) (2 ^ 64 - 1)
+
+-- The count rose. One that stands at its last value counts as risen.
+abbrev pub Rose : ℕ → ℕ → Type 0
+Rose before now = raised before ≤ now
+
+abbrev pub NeverFalls : ℕ → ℕ → Type 0
+NeverFalls before now = before ≤ now
+
+-- these octets put in front of those still to come, where they are told
+abbrev pub in_front : List ℕ → Option (List ℕ) → Option (List ℕ)
+in_front octets None = None
+in_front octets (Some left) = Some (octets ++ left)
+
+-- these octets put behind those taken, where they are told
+abbrev pub behind : Option (List ℕ) → List ℕ → Option (List ℕ)
+behind None octets = None
+behind (Some taken) octets = Some (taken ++ octets)
+
+-- two pieces, read or written one after the other, are one
+
+pub in_front-append : (first second : List ℕ) (left : Option (List ℕ)) →
+    in_front first (in_front second left) ≡ in_front (first ++ second) left
+in_front-append first second None = refl
+in_front-append first second (Some left) = ap Some (sym (append_assoc first second left))
+
+pub behind-append : (taken : Option (List ℕ)) (first second : List ℕ) →
+    behind (behind taken first) second ≡ behind taken (first ++ second)
+behind-append None first second = refl
+behind-append (Some taken) first second = ap Some (append_assoc taken first second)
+
+-- no octets change nothing
+
+pub in_front-nil : (left : Option (List ℕ)) → in_front [] left ≡ left
+in_front-nil None = refl
+in_front-nil (Some left) = refl
+
+pub behind-nil : (taken : Option (List ℕ)) → behind taken [] ≡ taken
+behind-nil None = refl
+behind-nil (Some taken) = ap Some (append-nil taken)
