@@ -1,6 +1,6 @@
 -- The texts of addresses and prefixes are read as those, and no others are.
 use Rattle.std.proofs.Common.{◌≡◌, ◌≢◌, ℕ, ◌/◌, ◌%◌, ◌^◌, ◌<◌, ◌≤◌, true, false, cond, eqb, ltb, All, List, [], ◌∷◌, ◌++◌, get_or, map, Option, Some, None, refl, sym, ap, ◌∙◌, arith, rules, tests}
-use Rattle.std.specs.Prelude.{IfSome, IfNone, option_and_then, option_map}
+use Rattle.std.specs.Prelude.{IfSome, IfNone, option_and_then}
 use Rattle.std.specs.Fmt.{decimal}
 use Rattle.std.specs.Int.{w32, to_be_bytes, from_be_bytes}
 use Rattle.std.specs.List.{slice_split, join_with_byte, list_all}
@@ -12,7 +12,6 @@ use Rattle.std.proofs.lemmas.List.Splits.{slice_split_none, slice_split_at, join
 use Rattle.std.proofs.lemmas.Nat.{from_be_bytes-to_be_bytes_4}
 use Rattle.std.proofs.lemmas.Option.{cond_some, none-some, same_Some, option_and_then_some}
 use Rattle.std.proofs.lemmas.Str.Parse.{not_in_digits}
-use Rattle.rcp_base.specs.declared.names.Addr.{Addr}
 use Rattle.rcp_base.specs.Text.{dot, address_text, number_of, octet_of, address_of_parts, address_of}
 use Rattle.rcp_base.proofs.TextLemmas.{own, number_of-decimal, number_of-Some, number_of-digits}
 
@@ -131,10 +130,10 @@ address_of-text n fits =
     ∙ rw (octet_of-decimal (n / 16777216 % 256) (omega arith), octet_of-decimal (n / 65536 % 256) (omega arith), octet_of-decimal (n / 256 % 256) (omega arith), octet_of-decimal (n % 256) (omega arith))
     (ap Some (from_be_bytes-to_be_bytes_4 n fits))
 
-pub found_address : (text : List ℕ) (r : Option Addr) → option_map (λ (a : Addr). a.0) r ≡ address_of text → IfSome r (λ a. text ≡ address_text a.0)
+pub found_address : (text : List ℕ) (r : Option ℕ) → r ≡ address_of text → IfSome r (λ a. text ≡ address_text a)
 found_address text None e = tt
-found_address text (Some a) e = (address_of-Some text a.0 (sym e)).0
+found_address text (Some a) e = (address_of-Some text a (sym e)).0
 
-pub no_address : (text : List ℕ) (r : Option Addr) → option_map (λ (a : Addr). a.0) r ≡ address_of text → IfNone r ((a : ℕ) → a < 2 ^ 32 → text ≡ address_text a → ⊥)
+pub no_address : (text : List ℕ) (r : Option ℕ) → r ≡ address_of text → IfNone r ((a : ℕ) → a < 2 ^ 32 → text ≡ address_text a → ⊥)
 no_address text (Some a) e = tt
 no_address text None e = λ a fits is. none-some a (e ∙ ap address_of is ∙ address_of-text a fits)

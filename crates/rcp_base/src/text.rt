@@ -88,11 +88,14 @@ fn address_in(text: &[u8]) -> Option<u32>
 
 /// The address of a text: four numbers of 0 to 255 joined by dots.
 pub fn read_addr(text: &[u8]) -> Option<Addr>
-    ensures value { option_map (λ a. a.0) result ≡ address_of text.now }
-    ensures found { IfSome result (λ a. text.now ≡ address_text a.0) }
+    ensures value { result ≡ address_of text.now }
+    ensures found { IfSome result (λ a. text.now ≡ address_text a) }
     ensures none { IfNone result ((a : ℕ) → a < 2 ^ 32 → text.now ≡ address_text a → ⊥) }
 {
-    address_in(text).map(Addr)
+    match address_in(text) {
+        Some(address) => Some(Addr(address)),
+        None => None,
+    }
 }
 
 fn prefix_of_two(address: &[u8], len: &[u8]) -> Option<Prefix>
@@ -161,8 +164,8 @@ fn put_dot_and(out: &mut [u8], place: usize, number: u8) -> usize
 
 /// Writes the address at the front, and answers how many octets it took: 7 to 15.
 pub fn write_addr(a: Addr, out: &mut [u8; 15]) -> usize
-    ensures text { out.new ≡ address_text a.0 ++ drop result out.old }
-    ensures count { result ≡ length (address_text a.0) }
+    ensures text { out.new ≡ address_text a ++ drop result out.old }
+    ensures count { result ≡ length (address_text a) }
 {
     put_address(out, a.0)
 }
