@@ -1,0 +1,458 @@
+-- The headline: after each record the octets sent to each connection replay to its table, and tables are the offers where nothing is touched.
+use Rattle.std.proofs.Common.{◌≡◌, ℕ, suc, ◌+◌, ◌^◌, ◌≤◌, ◌<◌, Bool, true, false, cond, not, ◌&&◌, ◌||◌, eqb, ltb, List, [], ◌∷◌, ◌++◌, length, map, get_or, drop, Option, Some, None, refl, sym, ap, subst, ◌∙◌, ◌⊎◌, inl, inr, arith, append_assoc}
+use Rattle.std.specs.Prelude.{filter, is_some, is_none}
+use Rattle.std.specs.List.{list_any, list_all, concat, AllByRecursion}
+use Rattle.std.specs.Int.{w16, w32, from_be_bytes}
+use Rattle.std.proofs.lemmas.Bool.{cases_Bool, and_parts, and_from, and_left, and_right, or_cases, or_parts, or_from, eqb-true, eqb-false, eq-eqb, ne_eqb, ltb-true, not-true, both_ways}
+use Rattle.std.proofs.lemmas.List.{append-nil}
+use Rattle.std.proofs.lemmas.List.Folds.{concat-append}
+use Rattle.rcp_base.specs.IpPrefix.{IpPrefix, IsPrefix}
+use Rattle.rcp_base.specs.declared.names.Member.{Member}
+use Rattle.rcp_model.specs.Maps.{get_at, put_at, same_prefix, is_among}
+use Rattle.rcp_model.specs.Messages.{IsMessage, message_size}
+use Rattle.rcp_model.specs.Attributes.{Attribute, canonical_octets, attributes_in}
+use Rattle.rcp_model.specs.Updates.{Table, after_messages, replay, Changes, changes_of}
+use Rattle.rcp_model.specs.LinkState.{same_number}
+use Rattle.rcp_model.specs.Control.{Domain, Server, ServerEvent, Up, Down, Change, Links, Work, table_of, is_connected, is_touched, offer, same_octets, announced_by, after, after_all}
+use Rattle.rcp_model.specs.Feed.{FeedRecord, RosterOf, READY, OCTETS, DRAIN, SUMMARY}
+use Rattle.rcp_model.specs.Meaning.{Connection, Established, slot_in, slot_on, Platform, domain_of, fresh, slot_from, update_events, is_faultless_update, work_events, OutRecord, cell_of, changed_cells, messages_to, drained, summary, is_new_number, seated, heard, drained_server, drain_messages, drain, step, output, platform_after, all_output, sent_to, Headline}
+use Rattle.rcp_model.proofs.MapLemmas.{get_at-put_at_same, get_at-put_at_other}
+use Rattle.rcp_model.proofs.OfferLemmas.{offer-fits}
+use Rattle.rcp_model.proofs.ServerLemmas.{number_test, AreCanonical, Settled, settled-up, settled-change, settled-work}
+use Rattle.rcp_model.proofs.RunLemmas.{CellUpdates, Replays, Replays-replay, Replays-nothing, after_messages-append, all-append, FitsAt, FitsAt-from, cells-whole, cells-effect, Worked, worked-all}
+
+-- ---- events of the records of today
+
+-- a change in form, or work
+abbrev IsGood : ServerEvent → Type 0
+IsGood (Up slot) = Unit {0}
+IsGood (Down slot) = ⊥
+IsGood (Change slot p octets) = IsPrefix p × ((o : List ℕ) → octets ≡ Some o → canonical_octets (attributes_in o) ≡ o)
+IsGood (Links edges) = ⊥
+IsGood (Work p) = Unit {0}
+
+settled-event : (domain : Domain) (event : ServerEvent) (server : Server) → IsGood event → Settled domain server → Settled domain (after domain event server)
+settled-event domain (Up slot) server good h = settled-up domain slot server h
+settled-event domain (Down slot) server good h = absurd good
+settled-event domain (Change slot p octets) server good h = settled-change domain slot p octets server good.0 good.1 h
+settled-event domain (Links edges) server good h = absurd good
+settled-event domain (Work p) server good h = settled-work domain p server h
+
+settled-all : (domain : Domain) (events : List ServerEvent) (server : Server) → AllByRecursion IsGood events → Settled domain server → Settled domain (after_all domain events server)
+unfolding after_all
+settled-all domain [] server good h = h
+settled-all domain (event ∷ events) server good h = settled-all domain events (after domain event server) good.1 (settled-event domain event server good.0 h)
+
+work-good : (ps : List IpPrefix) → AllByRecursion IsGood (work_events ps)
+work-good [] = tt
+work-good (p ∷ ps) = (tt, work-good ps)
+
+withdrawn-good : (slot : ℕ) (ps : List IpPrefix) → AllByRecursion IsPrefix ps → AllByRecursion IsGood (map (λ p. Change slot p None) ps)
+withdrawn-good slot [] h = tt
+withdrawn-good slot (p ∷ ps) h = ((h.0, λ o is. absurd cc), withdrawn-good slot ps h.1)
+
+announced-good : (slot : ℕ) (octets : List ℕ) (ps : List IpPrefix) → canonical_octets (attributes_in octets) ≡ octets → AllByRecursion IsPrefix ps → AllByRecursion IsGood (map (λ p. Change slot p (Some octets)) ps)
+announced-good slot octets [] e h = tt
+announced-good slot octets (p ∷ ps) e h =
+    ((h.0, λ o is. let o_is : octets ≡ o = cc in subst (λ (l : List ℕ). canonical_octets (attributes_in l) ≡ l) o_is e), announced-good slot octets ps e h.1)
+
+-- ---- changes leave the tables
+
+change-tables : (domain : Domain) (slot : ℕ) (p : IpPrefix) (octets : Option (List ℕ)) (server : Server) → (after domain (Change slot p octets) server).tables ≡ server.tables
+unfolding after
+change-tables domain slot p octets server =
+    elim (cases_Bool (is_connected server slot && not (same_octets (announced_by server.announcements slot p) octets))) [
+      | inl e ↦ rw e refl
+      | inr e ↦ rw e refl
+    ]
+
+changes-tables : (domain : Domain) (slot : ℕ) (octets : Option (List ℕ)) (ps : List IpPrefix) (server : Server) → (after_all domain (map (λ p. Change slot p octets) ps) server).tables ≡ server.tables
+unfolding after_all
+changes-tables domain slot octets [] server = refl
+changes-tables domain slot octets (p ∷ ps) server =
+    changes-tables domain slot octets ps (after domain (Change slot p octets) server) ∙ change-tables domain slot p octets server
+
+after_all-append : (domain : Domain) (events more : List ServerEvent) (server : Server) → after_all domain (events ++ more) server ≡ after_all domain more (after_all domain events server)
+unfolding after_all
+after_all-append domain [] more server = refl
+after_all-append domain (event ∷ events) more server = after_all-append domain events more (after domain event server)
+
+update-tables : (domain : Domain) (slot : ℕ) (changes : Changes) (server : Server) → (after_all domain (update_events slot changes) server).tables ≡ server.tables
+update-tables domain slot changes server =
+    ap (λ (s : Server). s.tables) (after_all-append domain (map (λ p. Change slot p None) changes.withdrawn) (map (λ p. Change slot p (Some (canonical_octets changes.attributes))) changes.announced) server)
+      ∙ changes-tables domain slot (Some (canonical_octets changes.attributes)) changes.announced (after_all domain (map (λ p. Change slot p None) changes.withdrawn) server)
+      ∙ changes-tables domain slot None changes.withdrawn server
+
+-- ---- connections
+
+abbrev NumbersDistinct : List Connection → Type 0
+NumbersDistinct [] = Unit {0}
+NumbersDistinct (connection ∷ connections) = (slot_on connections connection.number ≡ None) × NumbersDistinct connections
+
+slot_on-append_some : (cs : List Connection) (c : Connection) (n slot : ℕ) → slot_on cs n ≡ Some slot → slot_on (cs ++ c ∷ []) n ≡ Some slot
+slot_on-append_some [] c n slot h = absurd cc
+slot_on-append_some (d ∷ cs) c n slot h =
+    elim (cases_Bool (eqb d.number n)) [
+      | inl e ↦ rw e (rw e at h)
+      | inr e ↦ rw e (slot_on-append_some cs c n slot (rw e at h))
+    ]
+
+slot_on-append_none : (cs : List Connection) (c : Connection) (n : ℕ) → slot_on cs n ≡ None → slot_on (cs ++ c ∷ []) n ≡ cond (eqb c.number n) (Some (slot_in c.phase)) None
+slot_on-append_none [] c n h = refl
+slot_on-append_none (d ∷ cs) c n h =
+    elim (cases_Bool (eqb d.number n)) [
+      | inl e ↦ let no : Some (slot_in d.phase) ≡ None = rw e at h in absurd cc
+      | inr e ↦ rw e (slot_on-append_none cs c n (rw e at h))
+    ]
+
+-- a new number is above those that are there
+distinct-append : (cs : List Connection) (number slot : ℕ) → list_all (λ c. ltb c.number number) cs ≡ true → NumbersDistinct cs → NumbersDistinct (cs ++ record { number = number; phase = Established slot } ∷ [])
+distinct-append [] number slot h d = (refl, tt)
+distinct-append (c ∷ cs) number slot h d =
+    let parts = and_parts (ltb c.number number) (list_all (λ c. ltb c.number number) cs) h in
+    let below : c.number < number = ltb-true c.number number parts.0 in
+    let other : eqb number c.number ≡ false = ne_eqb number c.number (λ e. omega arith) in
+    (slot_on-append_none cs (record { number = number; phase = Established slot }) c.number d.0 ∙ rw other refl, distinct-append cs number slot parts.1 d.1)
+
+-- ---- what is sent
+
+sent_to-append : (n : ℕ) (xs ys : List OutRecord) → sent_to n (xs ++ ys) ≡ sent_to n xs ++ sent_to n ys
+sent_to-append n [] ys = refl
+sent_to-append n (x ∷ xs) ys =
+    elim (cases_Bool (eqb x.kind OCTETS && eqb x.connection n)) [
+      | inl e ↦ rw e (ap (λ (l : List ℕ). x.body ++ l) (sent_to-append n xs ys) ∙ sym (append_assoc x.body (sent_to n xs) (sent_to n ys)))
+      | inr e ↦ rw e (sent_to-append n xs ys)
+    ]
+
+sent_to-messages : (n : ℕ) (ms : List (List ℕ)) → sent_to n (messages_to n ms) ≡ concat ms
+sent_to-messages n [] = refl
+sent_to-messages n (m ∷ ms) = rw (eq-eqb n n refl) (ap (λ (l : List ℕ). m ++ l) (sent_to-messages n ms))
+
+sent_to-others : (n k : ℕ) (ms : List (List ℕ)) → eqb k n ≡ false → sent_to n (messages_to k ms) ≡ []
+sent_to-others n k [] h = refl
+sent_to-others n k (m ∷ ms) h = rw h (sent_to-others n k ms h)
+
+sent_to-drained_none : (n : ℕ) (ps : List IpPrefix) (before now : Server) (cs : List Connection) → slot_on cs n ≡ None → sent_to n (drained ps before now cs) ≡ []
+sent_to-drained_none n ps before now [] h = refl
+sent_to-drained_none n ps before now (c ∷ cs) h =
+    elim (cases_Bool (eqb c.number n)) [
+      | inl e ↦ let no : Some (slot_in c.phase) ≡ None = rw e at h in absurd cc
+      | inr e ↦ sent_to-append n (messages_to c.number (changed_cells ps (table_of before (slot_in c.phase)) (table_of now (slot_in c.phase)))) (drained ps before now cs)
+          ∙ rw (sent_to-others n c.number (changed_cells ps (table_of before (slot_in c.phase)) (table_of now (slot_in c.phase))) e) (sent_to-drained_none n ps before now cs (rw e at h))
+    ]
+
+sent_to-drained : (n slot : ℕ) (ps : List IpPrefix) (before now : Server) (cs : List Connection) → NumbersDistinct cs → slot_on cs n ≡ Some slot
+  → sent_to n (drained ps before now cs) ≡ concat (changed_cells ps (table_of before slot) (table_of now slot))
+sent_to-drained n slot ps before now [] d h = absurd cc
+sent_to-drained n slot ps before now (c ∷ cs) d h =
+    sent_to-append n (messages_to c.number (changed_cells ps (table_of before (slot_in c.phase)) (table_of now (slot_in c.phase)))) (drained ps before now cs)
+    ∙ elim (cases_Bool (eqb c.number n)) [
+      | inl e ↦
+          let n_is : c.number ≡ n = eqb-true c.number n e in
+          let same : Some (slot_in c.phase) ≡ Some slot = rw e at h in
+          let slot_is : slot_in c.phase ≡ slot = cc in
+          let none : slot_on cs n ≡ None = rw (← n_is) d.0 in
+          rw (n_is, slot_is, sent_to-messages n (changed_cells ps (table_of before slot) (table_of now slot)), sent_to-drained_none n ps before now cs none) (append-nil _)
+      | inr e ↦
+          rw (sent_to-others n c.number (changed_cells ps (table_of before (slot_in c.phase)) (table_of now (slot_in c.phase))) e) (sent_to-drained n slot ps before now cs d.1 (rw e at h))
+    ]
+
+-- ---- what is kept from record to record
+
+-- What the octets of a faultless UPDATE give: prefixes in form, and attributes whose canonical octets are read as themselves.
+pub record ReadsUpdates : Type 0 where
+  pub withdrawn : (octets : List ℕ) → ((i : ℕ) → get_or octets i 0 < 256) → is_faultless_update octets ≡ true → AllByRecursion IsPrefix (changes_of (drop 19 octets)).withdrawn
+  pub announced : (octets : List ℕ) → ((i : ℕ) → get_or octets i 0 < 256) → is_faultless_update octets ≡ true → AllByRecursion IsPrefix (changes_of (drop 19 octets)).announced
+  pub attributes : (octets : List ℕ) → ((i : ℕ) → get_or octets i 0 < 256) → is_faultless_update octets ≡ true
+    → canonical_octets (attributes_in (canonical_octets (changes_of (drop 19 octets)).attributes)) ≡ canonical_octets (changes_of (drop 19 octets)).attributes
+
+pub record Kept (platform : Platform) (outs : List OutRecord) : Type 0 where
+  pub settled : Settled (domain_of platform.roster) platform.server
+  pub distinct : NumbersDistinct platform.connections
+  pub connected : (n slot : ℕ) → slot_on platform.connections n ≡ Some slot → (table : Table) × (table_of platform.server slot ≡ Some table)
+  pub told : (n slot : ℕ) (table : Table) → slot_on platform.connections n ≡ Some slot → table_of platform.server slot ≡ Some table → Replays (sent_to n outs) table
+  pub unknown : (n : ℕ) → slot_on platform.connections n ≡ None → sent_to n outs ≡ []
+
+kept-fresh : (roster : RosterOf) → Kept (fresh roster) []
+kept-fresh roster = record {
+  settled = record {
+    offers = λ slot table p is untouched. absurd (no_table table is);
+    canonical = record { each = λ slot p octets is. absurd (no_octets octets is) };
+    touched = tt;
+    announced = tt;
+  };
+  distinct = tt;
+  connected = λ n slot is. absurd (no_slot slot is);
+  told = λ n slot table is given. absurd (no_slot slot is);
+  unknown = λ n is. refl;
+} where
+  no_table : (table : Table) → None ≡ Some table → ⊥
+  no_table table e = cc
+  no_octets : (octets : List ℕ) → None ≡ Some octets → ⊥
+  no_octets octets e = cc
+  no_slot : (slot : ℕ) → None ≡ Some slot → ⊥
+  no_slot slot e = cc
+
+-- ---- a router comes up
+
+none_from_not : (found : Option Table) → is_some found ≡ false → found ≡ None
+none_from_not None h = refl
+none_from_not (Some table) h = absurd cc
+
+-- a connection with a new number, for a slot that isn't connected
+raised : Platform → ℕ → ℕ → Platform
+raised platform number slot = record platform {
+  connections = platform.connections ++ record { number = number; phase = Established slot } ∷ [];
+  server = after_all (domain_of platform.roster) (Up slot ∷ []) platform.server;
+}
+
+-- what a connection with a slot is: an earlier one, or the new one
+on_raised : (cs : List Connection) (number slot n s : ℕ) → slot_on (cs ++ record { number = number; phase = Established slot } ∷ []) n ≡ Some s
+  → (slot_on cs n ≡ Some s) ⊎ ((slot_on cs n ≡ None) × (slot ≡ s))
+on_raised cs number slot n s h = by_cases (slot_on cs n) refl where
+  by_cases : (found : Option ℕ) → slot_on cs n ≡ found → (slot_on cs n ≡ Some s) ⊎ ((slot_on cs n ≡ None) × (slot ≡ s))
+  by_cases (Some t) is = inl (is ∙ (sym (slot_on-append_some cs (record { number = number; phase = Established slot }) n t is) ∙ h))
+  by_cases None is =
+      let new : cond (eqb number n) (Some slot) None ≡ Some s = sym (slot_on-append_none cs (record { number = number; phase = Established slot }) n is) ∙ h in
+      elim (cases_Bool (eqb number n)) [
+        | inl e ↦ let same : Some slot ≡ Some s = rw e at new in inr (is, cc)
+        | inr e ↦ let no : None ≡ Some s = rw e at new in absurd cc
+      ]
+
+some_not_none : (table : Table) → Some table ≡ None → ⊥
+some_not_none table e = cc
+
+kept-raised : (platform : Platform) (outs : List OutRecord) (number slot : ℕ) → list_all (λ c. ltb c.number number) platform.connections ≡ true → table_of platform.server slot ≡ None
+  → Kept platform outs → Kept (raised platform number slot) outs
+unfolding raised after_all after
+kept-raised platform outs number slot new absent h = record {
+  settled = settled-up (domain_of platform.roster) slot platform.server h.settled;
+  distinct = distinct-append platform.connections number slot new h.distinct;
+  connected = λ n s is.
+    elim (on_raised platform.connections number slot n s is) [
+      | inl old ↦ let had = h.connected n s old in (had.0, table_stays s had.0 had.1)
+      | inr fresh_one ↦ ([], rw (← fresh_one.1) (get_at-put_at_same same_number number_test slot [] platform.server.tables))
+    ];
+  told = λ n s table is given.
+    elim (on_raised platform.connections number slot n s is) [
+      | inl old ↦
+          let had = h.connected n s old in
+          let same : Some had.0 ≡ Some table = sym (table_stays s had.0 had.1) ∙ given in
+          let table_is : had.0 ≡ table = cc in
+          h.told n s table old (had.1 ∙ ap Some table_is)
+      | inr fresh_one ↦
+          let first : table_of (after (domain_of platform.roster) (Up slot) platform.server) s ≡ Some [] = rw (← fresh_one.1) (get_at-put_at_same same_number number_test slot [] platform.server.tables) in
+          let same : Some [] ≡ Some table = sym first ∙ given in
+          nothing_sent n table same fresh_one.0
+    ];
+  unknown = λ n is. h.unknown n (earlier n is);
+} where
+  table_stays : (s : ℕ) (table : Table) → table_of platform.server s ≡ Some table → get_at same_number s (put_at same_number slot [] platform.server.tables) ≡ Some table
+  table_stays s table had =
+      let other : eqb s slot ≡ false = elim (cases_Bool (eqb s slot)) [
+        | inl e ↦ let k : s ≡ slot = eqb-true s slot e in
+            absurd (some_not_none table (sym had ∙ ap (λ (t : ℕ). table_of platform.server t) k ∙ absent))
+        | inr e ↦ e
+      ] in
+      get_at-put_at_other same_number number_test slot s [] platform.server.tables other ∙ had
+  nothing_sent : (n : ℕ) (table : Table) → Some [] ≡ Some table → slot_on platform.connections n ≡ None → Replays (sent_to n outs) table
+  nothing_sent n table same none =
+      let empty : [] ≡ table = cc in
+      rw (h.unknown n none, ← empty) Replays-nothing
+  earlier : (n : ℕ) → slot_on (platform.connections ++ record { number = number; phase = Established slot } ∷ []) n ≡ None → slot_on platform.connections n ≡ None
+  earlier n is = by_cases (slot_on platform.connections n) refl where
+    by_cases : (found : Option ℕ) → slot_on platform.connections n ≡ found → slot_on platform.connections n ≡ None
+    by_cases None e = e
+    by_cases (Some t) e =
+        let no : Some t ≡ None = sym (slot_on-append_some platform.connections (record { number = number; phase = Established slot }) n t e) ∙ is in
+        absurd cc
+
+kept-seated : (platform : Platform) (outs : List OutRecord) (number : ℕ) (found : Option ℕ) → Kept platform outs → Kept (seated platform number found) outs
+unfolding raised
+kept-seated platform outs number None h = h
+kept-seated platform outs number (Some slot) h =
+    elim (cases_Bool (is_new_number platform.connections number && not (is_connected platform.server slot))) [
+      | inl e ↦
+          let parts = and_parts (is_new_number platform.connections number) (not (is_connected platform.server slot)) e in
+          let new = (and_parts (ltb 0 number) (list_all (λ c. ltb c.number number) platform.connections) parts.0).1 in
+          rw e (kept-raised platform outs number slot new (none_from_not (table_of platform.server slot) (not-true (is_connected platform.server slot) parts.1)) h)
+      | inr e ↦ rw e h
+    ]
+
+-- ---- an UPDATE is heard
+
+told_again : (platform : Platform) (outs : List OutRecord) (slot : ℕ) (octets : List ℕ) → ReadsUpdates → ((i : ℕ) → get_or octets i 0 < 256) → is_faultless_update octets ≡ true
+  → Kept platform outs → Kept (record platform { server = after_all (domain_of platform.roster) (update_events slot (changes_of (drop 19 octets))) platform.server }) outs
+told_again platform outs slot octets reads small faultless h = record {
+  settled = settled-all (domain_of platform.roster) (update_events slot (changes_of (drop 19 octets))) platform.server
+    (all-append IsGood _ _
+      (withdrawn-good slot (changes_of (drop 19 octets)).withdrawn (reads.withdrawn octets small faultless))
+      (announced-good slot (canonical_octets (changes_of (drop 19 octets)).attributes) (changes_of (drop 19 octets)).announced (reads.attributes octets small faultless) (reads.announced octets small faultless)))
+    h.settled;
+  distinct = h.distinct;
+  connected = λ n s is. let had = h.connected n s is in (had.0, ap (λ (t : List (ℕ × Table)). get_at same_number s t) same ∙ had.1);
+  told = λ n s table is given. h.told n s table is (ap (λ (t : List (ℕ × Table)). get_at same_number s t) (sym same) ∙ given);
+  unknown = h.unknown;
+} where
+  same : (after_all (domain_of platform.roster) (update_events slot (changes_of (drop 19 octets))) platform.server).tables ≡ platform.server.tables
+  same = update-tables (domain_of platform.roster) slot (changes_of (drop 19 octets)) platform.server
+
+kept-heard : (platform : Platform) (outs : List OutRecord) (octets : List ℕ) (found : Option ℕ) → ReadsUpdates → ((i : ℕ) → get_or octets i 0 < 256)
+  → Kept platform outs → Kept (heard platform octets found) outs
+kept-heard platform outs octets None reads small h = h
+kept-heard platform outs octets (Some slot) reads small h =
+    elim (cases_Bool (is_faultless_update octets)) [
+      | inl e ↦ rw e (told_again platform outs slot octets reads small e h)
+      | inr e ↦ rw e h
+    ]
+
+-- ---- the touched prefixes are worked
+
+module _ (codec : CellUpdates) (platform : Platform) (outs : List OutRecord) (h : Kept platform outs) where
+  now : Server
+  now = drained_server platform
+
+  work : Worked (domain_of platform.roster) platform.server.touched platform.server (drained_server platform)
+  work = worked-all (domain_of platform.roster) platform.server.touched platform.server
+
+  -- what a table has afterwards leaves room for its prefix
+  new_fits : (slot : ℕ) (table new : Table) (p : IpPrefix) (octets : List ℕ) → table_of platform.server slot ≡ Some table
+    → ((q : IpPrefix) → get_at same_prefix q new ≡ cond (is_among platform.server.touched q) (offer (domain_of platform.roster) platform.server.announcements platform.server.edges slot q) (get_at same_prefix q table))
+    → get_at same_prefix p new ≡ Some octets → length octets ≤ 4068
+  new_fits slot table new p octets had gives is =
+      let offered : offer (domain_of platform.roster) platform.server.announcements platform.server.edges slot p ≡ Some octets =
+        elim (cases_Bool (is_among platform.server.touched p)) [
+          | inl e ↦ rw e at (sym (gives p) ∙ is)
+          | inr e ↦ sym (h.settled.offers slot table p had e) ∙ (rw e at (sym (gives p) ∙ is))
+        ] in
+      offer-fits (domain_of platform.roster) platform.server.announcements platform.server.edges slot p octets (λ e l is. h.settled.canonical.each e p l is) offered
+
+  in_form : (slot : ℕ) (table new : Table) (ps : List IpPrefix) → table_of platform.server slot ≡ Some table
+    → ((q : IpPrefix) → get_at same_prefix q new ≡ cond (is_among platform.server.touched q) (offer (domain_of platform.roster) platform.server.announcements platform.server.edges slot q) (get_at same_prefix q table))
+    → AllByRecursion IsPrefix ps → AllByRecursion (FitsAt (Some new)) ps
+  in_form slot table new [] had gives forms = tt
+  in_form slot table new (p ∷ ps) had gives forms =
+      (FitsAt-from (Some new) p forms.0 (λ octets is. new_fits slot table new p octets had gives is), in_form slot table new ps had gives forms.1)
+
+  -- the octets so far and the UPDATEs of the changed cells replay to the new table
+  replays_on : (n slot : ℕ) (table new : Table) → slot_on platform.connections n ≡ Some slot → table_of platform.server slot ≡ Some table
+    → ((q : IpPrefix) → get_at same_prefix q new ≡ cond (is_among platform.server.touched q) (offer (domain_of platform.roster) platform.server.announcements platform.server.edges slot q) (get_at same_prefix q table))
+    → Replays (sent_to n outs ++ concat (changed_cells platform.server.touched (Some table) (Some new))) new
+  replays_on n slot table new on had gives =
+      let before = h.told n slot table on had in
+      let forms = in_form slot table new platform.server.touched had gives h.settled.touched in
+      let cells = changed_cells platform.server.touched (Some table) (Some new) in
+      record {
+        messages = before.messages ++ cells;
+        whole = ap (λ (l : List ℕ). l ++ concat cells) before.whole ∙ sym (concat-append before.messages cells);
+        each = all-append IsMessage before.messages cells before.each (cells-whole codec platform.server.touched (Some table) (Some new) forms);
+        gives = λ q. rw (after_messages-append before.messages cells [])
+          (cells-effect codec platform.server.touched (Some table) (Some new) (after_messages before.messages []) q forms
+            (elim (cases_Bool (is_among platform.server.touched q)) [
+              | inl e ↦ inr (before.gives q, e)
+              | inr e ↦ inl (before.gives q ∙ sym (gives q ∙ rw e refl))
+            ]));
+      }
+
+  kept-drained : Kept (drain platform) (outs ++ drain_messages platform ++ summary (drained_server platform) (drain platform).updates ∷ [])
+  kept-drained = record {
+    settled = settled-all (domain_of platform.roster) (work_events platform.server.touched) platform.server (work-good platform.server.touched) h.settled;
+    distinct = h.distinct;
+    connected = λ n s is.
+      let had = h.connected n s is in
+      let new = work.tables s had.0 had.1 in
+      (new.0, new.1);
+    told = λ n s table is given.
+      let had = h.connected n s is in
+      let new = work.tables s had.0 had.1 in
+      let same : Some new.0 ≡ Some table = sym new.1 ∙ given in
+      let table_is : new.0 ≡ table = cc in
+      let sent : sent_to n (drain_messages platform) ≡ concat (changed_cells platform.server.touched (Some had.0) (Some new.0)) =
+        sent_to-drained n s platform.server.touched platform.server (drained_server platform) platform.connections h.distinct is
+          ∙ rw (had.1, new.1) refl in
+      rw (← table_is, all_sent n, sent) (replays_on n s had.0 new.0 is had.1 new.2);
+    unknown = λ n is. rw (all_sent n, sent_to-drained_none n platform.server.touched platform.server (drained_server platform) platform.connections is, h.unknown n is) refl;
+  } where
+    all_sent : (n : ℕ) → sent_to n (outs ++ drain_messages platform ++ summary (drained_server platform) (drain platform).updates ∷ []) ≡ sent_to n outs ++ sent_to n (drain_messages platform)
+    all_sent n =
+        sent_to-append n (outs ++ drain_messages platform) (summary (drained_server platform) (drain platform).updates ∷ [])
+        ∙ append-nil _
+        ∙ sent_to-append n outs (drain_messages platform)
+
+-- ---- every record
+
+-- the octets of a record's body
+abbrev pub HasOctets : FeedRecord → Type 0
+HasOctets item = (i : ℕ) → get_or item.body i 0 < 256
+
+kept-quiet : (platform : Platform) (outs : List OutRecord) → Kept platform outs → Kept platform (outs ++ [])
+kept-quiet platform outs h = rw (append-nil outs) h
+
+pub kept-step : CellUpdates → ReadsUpdates → (platform : Platform) (outs : List OutRecord) (item : FeedRecord) → HasOctets item → Kept platform outs → Kept (step platform item) (outs ++ output platform item)
+unfolding step output
+kept-step codec reads platform outs item small h =
+    elim (cases_Bool (eqb item.kind READY)) [
+      | inl ready ↦
+          let kind_is : item.kind ≡ READY = eqb-true item.kind READY ready in
+          rw kind_is (kept-quiet (seated platform item.source (slot_from 0 platform.roster.members (from_be_bytes w32 item.body))) outs
+            (kept-seated platform outs item.source (slot_from 0 platform.roster.members (from_be_bytes w32 item.body)) h))
+      | inr not_ready ↦ elim (cases_Bool (eqb item.kind OCTETS)) [
+          | inl octets ↦
+              let kind_is : item.kind ≡ OCTETS = eqb-true item.kind OCTETS octets in
+              rw kind_is (kept-quiet (heard platform item.body (slot_on platform.connections item.source)) outs
+                (kept-heard platform outs item.body (slot_on platform.connections item.source) reads small h))
+          | inr not_octets ↦ elim (cases_Bool (eqb item.kind DRAIN)) [
+              | inl drains ↦
+                  let kind_is : item.kind ≡ DRAIN = eqb-true item.kind DRAIN drains in
+                  rw (kind_is, ← append_assoc outs (drain_messages platform) (summary (drained_server platform) (drain platform).updates ∷ [])) (kept-drained codec platform outs h)
+              | inr not_drain ↦ rw (not_ready, not_octets, not_drain) (kept-quiet platform outs h)
+            ]
+        ]
+    ]
+
+pub kept-run : CellUpdates → ReadsUpdates → (platform : Platform) (outs : List OutRecord) (items : List FeedRecord) → AllByRecursion HasOctets items → Kept platform outs
+  → Kept (platform_after platform items) (outs ++ all_output platform items)
+unfolding platform_after all_output
+kept-run codec reads platform outs [] small h = rw (append-nil outs) h
+kept-run codec reads platform outs (item ∷ items) small h =
+    rw (← append_assoc outs (output platform item) (all_output (step platform item) items))
+      (kept-run codec reads (step platform item) (outs ++ output platform item) items small.1 (kept-step codec reads platform outs item small.0 h))
+
+-- ---- the roster stays
+
+seated-roster : (platform : Platform) (number : ℕ) (found : Option ℕ) → (seated platform number found).roster ≡ platform.roster
+seated-roster platform number None = refl
+seated-roster platform number (Some slot) =
+    elim (cases_Bool (is_new_number platform.connections number && not (is_connected platform.server slot))) [ inl e ↦ rw e refl | inr e ↦ rw e refl ]
+
+heard-roster : (platform : Platform) (octets : List ℕ) (found : Option ℕ) → (heard platform octets found).roster ≡ platform.roster
+heard-roster platform octets None = refl
+heard-roster platform octets (Some slot) = elim (cases_Bool (is_faultless_update octets)) [ inl e ↦ rw e refl | inr e ↦ rw e refl ]
+
+step-roster : (platform : Platform) (item : FeedRecord) → (step platform item).roster ≡ platform.roster
+unfolding step
+step-roster platform item =
+    elim (cases_Bool (eqb item.kind READY)) [
+      | inl e ↦ rw e (seated-roster platform item.source (slot_from 0 platform.roster.members (from_be_bytes w32 item.body)))
+      | inr e ↦ elim (cases_Bool (eqb item.kind OCTETS)) [
+          | inl f ↦ rw (e, f) (heard-roster platform item.body (slot_on platform.connections item.source))
+          | inr f ↦ elim (cases_Bool (eqb item.kind DRAIN)) [
+              | inl g ↦ rw (e, f, g) refl
+              | inr g ↦ rw (e, f, g) refl
+            ]
+        ]
+    ]
+
+pub run-roster : (platform : Platform) (items : List FeedRecord) → (platform_after platform items).roster ≡ platform.roster
+unfolding platform_after
+run-roster platform [] = refl
+run-roster platform (item ∷ items) = run-roster (step platform item) items ∙ step-roster platform item
+
+pub headline-holds : CellUpdates → ReadsUpdates → (roster : RosterOf) (items : List FeedRecord) → AllByRecursion HasOctets items → Headline roster items
+headline-holds codec reads roster items small number slot p on untouched =
+    let kept = kept-run codec reads (fresh roster) [] items small (kept-fresh roster) in
+    let platform = platform_after (fresh roster) items in
+    let had = kept.connected number slot on in
+    Replays-replay codec (sent_to number (all_output (fresh roster) items)) had.0 p (kept.told number slot had.0 on had.1)
+    ∙ kept.settled.offers slot had.0 p had.1 untouched
+    ∙ ap (λ (r : RosterOf). offer (domain_of r) platform.server.announcements platform.server.edges slot p) (run-roster (fresh roster) items)

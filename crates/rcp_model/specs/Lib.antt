@@ -1,0 +1,16 @@
+pub use Rattle.rcp_base.specs.IpPrefix
+pub mod Maps
+pub mod Cut
+pub mod Messages
+pub mod Attributes
+pub mod Routes
+pub mod Updates
+pub mod LinkState
+pub mod Edges
+pub mod Costs
+pub mod Decision
+pub mod Control
+pub mod Feed
+pub mod Meaning
+pub mod Examples
+pub mod Plain

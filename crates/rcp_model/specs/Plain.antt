@@ -1,0 +1,151 @@
+-- The plain form of feed that is read today: which records are of the form, and what a whole feed comes to.
+use Rattle.std.specs.Prelude.{◌≡◌, ℕ, ◌+◌, ◌^◌, Bool, true, false, not, ◌&&◌, ◌||◌, ◌==◌, List, [], ◌∷◌, ◌++◌, length, take, drop, map, Option, Some, None, is_some, nat_lt, nat_le, if◌then◌else◌, bytes_eq}
+use Rattle.std.specs.List.{list_all, flat_map}
+use Rattle.std.specs.Int.{w16, w32, from_be_bytes}
+use Rattle.rcp_base.specs.IpPrefix.{IpPrefix}
+use Rattle.rcp_model.specs.Attributes.{Attribute, Segment, ORIGIN, AS_PATH, NEXT_HOP, LOCAL_PREF, AS_SEQUENCE, attributes_in}
+use Rattle.rcp_model.specs.Routes.{path_of}
+use Rattle.rcp_model.specs.Updates.{Sections, sections_of, replay}
+use Rattle.rcp_model.specs.Control.{is_connected, is_touched, offer}
+use Rattle.rcp_model.specs.Feed.{FeedRecord, RosterOf, ROSTER, READY, OCTETS, DRAIN, FINISH, records_in, record_octets, roster_of}
+use Rattle.rcp_model.specs.Meaning.{Connection, Platform, fresh, domain_of, slot_from, slot_on, is_new_number, is_faultless_update, OutRecord, out_octets, cell_of, step, output, platform_after, all_output}
+
+-- ---- records of the form
+
+-- one AS_SEQUENCE and nothing else
+abbrev pub is_one_sequence : List Segment → Bool
+is_one_sequence [] = false
+is_one_sequence (segment ∷ []) = segment.kind == AS_SEQUENCE
+is_one_sequence (segment ∷ other ∷ segments) = false
+
+-- ORIGIN, AS_PATH, NEXT_HOP and LOCAL_PREF, each once and in this order, with the flags of a well-known attribute
+abbrev pub is_plain_list : List Attribute → Bool
+is_plain_list attributes =
+    bytes_eq (map (λ a. a.kind) attributes) (ORIGIN ∷ AS_PATH ∷ NEXT_HOP ∷ LOCAL_PREF ∷ [])
+    && list_all (λ a. a.flags == 64) attributes
+    && is_one_sequence (path_of w16 attributes)
+
+abbrev pub are_plain_sections : Option Sections → Bool
+are_plain_sections None = false
+are_plain_sections (Some sections) =
+    length sections.withdrawn == 0 && not (length sections.nlri == 0) && is_plain_list (attributes_in sections.attributes)
+
+-- one whole faultless UPDATE that withdraws nothing, announces something, and has a plain list of attributes
+unfoldable pub is_plain_update : List ℕ → Bool
+is_plain_update octets = is_faultless_update octets && are_plain_sections (sections_of (drop 19 octets))
+
+abbrev pub may_be_seated : Platform → ℕ → Option ℕ → Bool
+may_be_seated platform number None = false
+may_be_seated platform number (Some slot) = is_new_number platform.connections number && not (is_connected platform.server slot)
+
+-- whether a record behind the first and before the last is of the form
+unfoldable pub has_form : Platform → FeedRecord → Bool
+has_form platform item =
+    if item.kind == READY then length item.body == 4 && may_be_seated platform item.source (slot_from 0 platform.roster.members (from_be_bytes w32 item.body)) else (
+    if item.kind == OCTETS then is_some (slot_on platform.connections item.source) && is_plain_update item.body else
+    item.kind == DRAIN && item.source == 0 && length item.body == 0)
+
+abbrev pub is_end : FeedRecord → Bool
+is_end item = item.kind == FINISH && item.source == 0 && length item.body == 0
+
+-- the roster of a first record of the form
+abbrev pub first_roster : FeedRecord → Option RosterOf
+first_roster item = if item.kind == ROSTER && item.source == 0 && nat_le (length item.body) 65536 then roster_of item.body else None
+
+-- ---- how a feed ends
+
+-- no record is read where those before it have so many octets
+abbrev pub most_octets : ℕ
+most_octets = 2 ^ 40
+
+-- at the end Z, or at the first record that isn't of the form, by its number
+pub data Ending : Type 0 where
+  Finished : Ending
+  TooLong : ℕ → Ending
+  BadBody : ℕ → Ending
+
+abbrev pub record_length : FeedRecord → ℕ
+record_length item = 9 + length item.body
+
+-- The end of records that follow a platform, of which the first has this number, after so many octets.
+unfoldable pub ending : Platform → ℕ → ℕ → List FeedRecord → Ending
+ending platform number before [] = if nat_le most_octets before then TooLong number else BadBody number
+ending platform number before (item ∷ items) =
+    if nat_le most_octets before then TooLong number else (
+    if is_end item then Finished else (
+    if has_form platform item then ending (step platform item) (number + 1) (before + record_length item) items else BadBody number))
+
+-- the records before that end
+unfoldable pub formed : Platform → ℕ → List FeedRecord → List FeedRecord
+formed platform before [] = []
+formed platform before (item ∷ items) =
+    if nat_le most_octets before then [] else (
+    if is_end item then [] else (
+    if has_form platform item then item ∷ formed (step platform item) (before + record_length item) items else []))
+
+-- ---- a whole feed
+
+-- how many octets records of the form have, and Z behind them
+abbrev pub octets_through : List FeedRecord → ℕ
+octets_through [] = 9
+octets_through (item ∷ items) = record_length item + octets_through items
+
+-- What octets come to as a feed: the roster of the first record, the records of the form behind it, how they end, and the number of octets through Z where they end there.
+pub record FeedMeaning : Type 0 where
+  pub roster : Option RosterOf
+  pub items : List FeedRecord
+  pub end : Ending
+  pub through : ℕ
+
+abbrev pub no_feed : FeedMeaning
+no_feed = record { roster = None; items = []; end = BadBody 1; through = 0 }
+
+abbrev pub after_roster : FeedRecord → List FeedRecord → Option RosterOf → FeedMeaning
+after_roster first items None = no_feed
+after_roster first items (Some roster) = record {
+  roster = Some roster;
+  items = formed (fresh roster) (record_length first) items;
+  end = ending (fresh roster) 2 (record_length first) items;
+  through = record_length first + octets_through (formed (fresh roster) (record_length first) items);
+}
+
+abbrev pub meaning_of_records : List FeedRecord → FeedMeaning
+meaning_of_records [] = no_feed
+meaning_of_records (first ∷ items) = after_roster first items (first_roster first)
+
+unfoldable pub feed_meaning : List ℕ → FeedMeaning
+feed_meaning octets = meaning_of_records (records_in octets)
+
+-- the octets that are put out for records that follow a roster
+abbrev pub output_octets : Option RosterOf → List FeedRecord → List ℕ
+output_octets None items = []
+output_octets (Some roster) items = flat_map out_octets (all_output (fresh roster) items)
+
+-- all that is put out for a feed
+abbrev pub whole_output : FeedMeaning → List ℕ
+whole_output feed = output_octets feed.roster feed.items
+
+-- ---- the headline over octets that were really written
+
+-- the octets sent to a connection within octets that were put out: the bodies of the records for it
+abbrev pub bodies_to : ℕ → List FeedRecord → List ℕ
+bodies_to number [] = []
+bodies_to number (item ∷ items) = if item.kind == OCTETS && item.source == number then item.body ++ bodies_to number items else bodies_to number items
+
+abbrev pub sent_within : ℕ → List ℕ → List ℕ
+sent_within number octets = bodies_to number (records_in octets)
+
+-- For each of the records of a feed whose output is whole within the octets that were written: each connected router, at each prefix that
+-- isn't touched, was sent octets that replay to exactly what it is offered.
+abbrev pub HeadlineWritten : RosterOf → List FeedRecord → List ℕ → Type 0
+HeadlineWritten roster items written =
+    (i : ℕ) (more : List ℕ) →
+    let done = take i items in
+    let outs = flat_map out_octets (all_output (fresh roster) done) in
+    let platform = platform_after (fresh roster) done in
+    written ≡ outs ++ more →
+    (number slot : ℕ) (p : IpPrefix) → slot_on platform.connections number ≡ Some slot → is_touched platform.server p ≡ false
+    → cell_of (Some (replay (sent_within number outs))) p ≡ offer (domain_of roster) platform.server.announcements platform.server.edges slot p
+
+abbrev pub FeedHeadline : FeedMeaning → List ℕ → Type 0
+FeedHeadline feed written = (roster : RosterOf) → feed.roster ≡ Some roster → HeadlineWritten roster feed.items written

@@ -1,0 +1,10 @@
+//! The vocabulary of the route control server: routes, edges, changes and events.
+#![tactic(auto)]
+
+mod event;
+mod octets;
+mod route;
+
+pub use event::{Change, Edge, Event};
+pub use octets::Octets;
+pub use route::Route;

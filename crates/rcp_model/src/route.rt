@@ -1,0 +1,46 @@
+use crate::octets::Octets;
+use rcp_base::Addr;
+use std::marker::Model;
+use std::sync::Arc;
+
+/// A route to a prefix (RFC 4271 section 1.1): what the decision process reads of its path
+/// attributes, and their octets as they are sent on. Contracts see the record of the fields.
+#[derive(Debug, Drop)]
+pub struct Route {
+    /// LOCAL_PREF (section 5.1.5), 100 where it was absent.
+    pub pref: u32,
+    /// The length of AS_PATH (section 9.1.2.2): each number of an AS_SEQUENCE counts one, each AS_SET one.
+    pub hops: u32,
+    /// ORIGIN (section 5.1.1): 0 IGP, 1 EGP, 2 INCOMPLETE.
+    pub origin: u8,
+    /// The AS that the route was learned from: the first of AS_PATH where it begins with an AS_SEQUENCE, else the local AS.
+    pub neighbour: u32,
+    /// MULTI_EXIT_DISC (section 5.1.4), 0 where it was absent.
+    pub med: u32,
+    /// Whether the local AS stands in AS_PATH (section 9.1.2).
+    pub looped: bool,
+    /// Whether `attrs` leave no room for a prefix in a message of 4,096 octets.
+    pub long: bool,
+    /// NEXT_HOP (section 5.1.3).
+    pub next_hop: Addr,
+    /// The octets of the path attributes as they are sent on.
+    pub attrs: Arc<Octets>,
+}
+
+impl Model for Route {
+    ghost use Rattle.rcp_model.specs.Routes.{RouteFields};
+
+    ghost Value = { RouteFields };
+
+    ghost view = { λ r. record {
+      pref = r.pref;
+      hops = r.hops;
+      origin = r.origin;
+      neighbour = r.neighbour;
+      med = r.med;
+      looped = r.looped;
+      long = r.long;
+      next_hop = r.next_hop;
+      attrs = r.attrs.value;
+    } };
+}
