@@ -49,3 +49,7 @@ cost edges u v = cost_through edges (entered edges) u v
 -- whether v is in the partition of u: there is a walk
 abbrev pub is_reached : List Edge → ℕ → ℕ → Bool
 is_reached edges u v = is_some (cost edges u v)
+
+-- each edge has one in the other direction, of any cost
+abbrev pub IsTwoWay : List Edge → Type 0
+IsTwoWay edges = (edge : Edge) → Contains edges edge → (back : Edge) × Contains edges back × (back.from ≡ edge.to) × (back.to ≡ edge.from)
