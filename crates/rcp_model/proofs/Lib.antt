@@ -1,3 +1,4 @@
+pub mod CutLemmas
 mod Computed
 pub mod MapLemmas
 pub mod OfferLemmas
