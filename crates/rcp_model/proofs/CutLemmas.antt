@@ -50,7 +50,7 @@ pub record IsSize (size : List ℕ → Option ℕ) : Type 0 where
 
 -- It tells the same whatever stands after the piece.
 pub record IsLocal (size : List ℕ → Option ℕ) : Type 0 where
-  pub local : (octets more : List ℕ) (n : ℕ) → size octets ≡ Some n → size (take n octets ++ more) ≡ Some n
+  pub anyway : (piece more other : List ℕ) → size (piece ++ more) ≡ Some (length piece) → size (piece ++ other) ≡ Some (length piece)
 
 -- The octets are seen as a piece in front of whatever follows.
 pub record IsFront (size : List ℕ → Option ℕ) (piece : List ℕ) : Type 0 where
@@ -150,10 +150,8 @@ module _ (size : List ℕ → Option ℕ) (ok : IsSize size) where
   -- ---- where the length depends on the piece alone
 
   module _ (front : IsLocal size) where
-    IsFront-seen : (piece more : List ℕ) → size (piece ++ more) ≡ Some (length piece) → IsFront size piece
-    IsFront-seen piece more e = record {
-      seen = λ other. let same : take (length piece) (piece ++ more) ≡ piece = take_at piece more (length piece) refl in rw same at (front.local (piece ++ more) other (length piece) e)
-    }
+    pub IsFront-seen : (piece more : List ℕ) → size (piece ++ more) ≡ Some (length piece) → IsFront size piece
+    IsFront-seen piece more e = record { seen = λ other. front.anyway piece more other e }
 
     all_in_front : (pieces : List (List ℕ)) → AllByRecursion (λ piece. (more : List ℕ) × (size (piece ++ more) ≡ Some (length piece))) pieces → AllByRecursion (IsFront size) pieces
     all_in_front [] each = tt

@@ -1,4 +1,6 @@
 pub mod CutLemmas
+pub mod FaultLemmas
+pub mod ReadingLemmas
 mod Computed
 pub mod MapLemmas
 pub mod OfferLemmas
