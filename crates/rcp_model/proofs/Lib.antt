@@ -1,6 +1,9 @@
 pub mod CutLemmas
 pub mod FaultLemmas
 pub mod ReadingLemmas
+pub mod PrefixLemmas
+pub mod SectionLemmas
+pub mod UpdateLemmas
 mod Computed
 pub mod MapLemmas
 pub mod OfferLemmas

@@ -1,0 +1,66 @@
+-- Sections of an UPDATE: that prefixes that are written one after another are read again.
+use Rattle.std.proofs.Common.{◌≡◌, ℕ, zero, suc, ◌+◌, ◌<◌, ◌≤◌, ◌^◌, Bool, true, false, cond, ◌&&◌, List, [], ◌∷◌, ◌++◌, length, map, take, drop, Option, Some, None, refl, sym, ap, ◌∙◌, arith, leb, length-append, append-nil, leb-true}
+use Rattle.std.specs.Prelude.{option_map, filter_map}
+use Rattle.std.specs.List.{concat, flat_map, AllByRecursion}
+use Rattle.std.proofs.lemmas.Bool.{and_parts}
+use Rattle.std.proofs.lemmas.Option.{none-some, same_Some, cond_some}
+use Rattle.rcp_base.specs.IpPrefix.{IpPrefix, IsPrefix, masked, octets_for, address_of_octets, prefix_at, prefix_octets}
+use Rattle.rcp_model.specs.Cut.{cut}
+use Rattle.rcp_model.specs.Updates.{prefix_size, prefixes_in, prefixes_fault}
+use Rattle.rcp_model.proofs.CutLemmas.{IsSize, IsFront, cut-flat_map_all}
+use Rattle.rcp_model.proofs.PrefixLemmas.{read_again}
+
+-- where a prefix stands at the front, its octets do
+pub record HasPrefix (octets : List ℕ) (p : IpPrefix) (n : ℕ) : Type 0 where
+  pub positive : 0 < n
+  pub within : n ≤ length octets
+
+pub HasPrefix-from : (octets : List ℕ) (p : IpPrefix) (n : ℕ) → prefix_at octets ≡ Some (p, n) → HasPrefix octets p n
+HasPrefix-from [] p n e = absurd (none-some (p, n) e)
+HasPrefix-from (len ∷ rest) p n e =
+    let chosen = cond_some (leb len 32 && leb (octets_for len) (length rest)) (record { addr = masked (address_of_octets (take (octets_for len) rest)) len; len = len }, 1 + octets_for len) (p, n) e in
+    let tests = and_parts (leb len 32) (leb (octets_for len) (length rest)) chosen.0 in
+    let count : 1 + octets_for len ≡ n = ap (λ (found : IpPrefix × ℕ). found.1) chosen.1 in
+    record { positive = omega arith; within = omega (arith, leb-true _ _ tests.1) }
+
+size_of : (o : Option (IpPrefix × ℕ)) (n : ℕ) → option_map (λ (found : IpPrefix × ℕ). found.1) o ≡ Some n → (p : IpPrefix) × (o ≡ Some (p, n))
+size_of None n e = absurd (none-some n e)
+size_of (Some found) n e = (found.0, ap (λ (k : ℕ). Some (found.0, k)) (same_Some found.1 n e))
+
+pub prefix_size-Some : (octets : List ℕ) (n : ℕ) → prefix_size octets ≡ Some n → (p : IpPrefix) × (prefix_at octets ≡ Some (p, n))
+unfolding prefix_size
+prefix_size-Some octets n e = size_of (prefix_at octets) n e
+
+pub IsSize-prefix_size : IsSize prefix_size
+IsSize-prefix_size = record {
+  positive = λ octets n e. let found = prefix_size-Some octets n e in (HasPrefix-from octets found.0 n found.1).positive;
+  within = λ octets n e. let found = prefix_size-Some octets n e in (HasPrefix-from octets found.0 n found.1).within;
+}
+
+-- ---- what is written is read again
+
+pub IsFront-prefix : (p : IpPrefix) → IsPrefix p → IsFront prefix_size (prefix_octets p)
+unfolding prefix_size
+IsFront-prefix p form = record { seen = λ more. ap (option_map (λ (found : IpPrefix × ℕ). found.1)) (read_again p more form) }
+
+all_in_front : (ps : List IpPrefix) → AllByRecursion IsPrefix ps → AllByRecursion (λ p. IsFront prefix_size (prefix_octets p)) ps
+all_in_front [] each = tt
+all_in_front (p ∷ ps) each = (IsFront-prefix p each.0, all_in_front ps each.1)
+
+pub cut-prefixes : (ps : List IpPrefix) → AllByRecursion IsPrefix ps → cut prefix_size (flat_map prefix_octets ps) ≡ (map prefix_octets ps, [])
+cut-prefixes ps each = cut-flat_map_all prefix_size IsSize-prefix_size prefix_octets ps (all_in_front ps each)
+
+alone : (p : IpPrefix) → IsPrefix p → prefix_at (prefix_octets p) ≡ Some (p, length (prefix_octets p))
+alone p form = ap prefix_at (sym (append-nil (prefix_octets p))) ∙ read_again p [] form
+
+each_again : (ps : List IpPrefix) → AllByRecursion IsPrefix ps → filter_map (λ piece. option_map (λ (found : IpPrefix × ℕ). found.0) (prefix_at piece)) (map prefix_octets ps) ≡ ps
+each_again [] each = refl
+each_again (p ∷ ps) each = rw (alone p each.0) (ap (λ (l : List IpPrefix). p ∷ l) (each_again ps each.1))
+
+-- the prefixes of a section that they were written to
+pub prefixes_in-written : (ps : List IpPrefix) → AllByRecursion IsPrefix ps → prefixes_in (flat_map prefix_octets ps) ≡ ps
+prefixes_in-written ps each =
+    ap (λ (r : List (List ℕ) × List ℕ). filter_map (λ piece. option_map (λ (found : IpPrefix × ℕ). found.0) (prefix_at piece)) r.0) (cut-prefixes ps each) ∙ each_again ps each
+
+pub prefixes_fault-written : (ps : List IpPrefix) → AllByRecursion IsPrefix ps → prefixes_fault (flat_map prefix_octets ps) ≡ None
+prefixes_fault-written ps each = rw (cut-prefixes ps each) refl
