@@ -1,0 +1,3 @@
+//! Laws of the definitions, each the contract of a function with an empty body.
+
+pub mod reading;
