@@ -1,6 +1,7 @@
 -- The cutter: what it takes off the front, that its pieces and the rest are the octets, and that it is undone by putting pieces one after another.
-use Rattle.std.proofs.Common.{◌≡◌, ℕ, zero, suc, ◌+◌, ◌-◌, ◌<◌, ◌≤◌, ◌⊎◌, inl, inr, List, [], ◌∷◌, ◌++◌, length, map, take, drop, Option, Some, None, refl, sym, ap, ◌∙◌, subst, arith, sub-one, take_at, drop_at, length-append, length-take-le, append_assoc, append-nil, take-append-drop, ⊎_elim}
-use Rattle.std.specs.List.{concat, flat_map, AllByRecursion}
+use Rattle.std.proofs.Common.{◌≡◌, ℕ, zero, suc, ◌-◌, ◌<◌, ◌≤◌, ◌⊎◌, inl, inr, List, [], ◌∷◌, ◌++◌, length, map, take, drop, Option, Some, None, refl, sym, ap, ◌∙◌, subst, arith, take_at, drop_at, length-append, length-take-le, append_assoc, append-nil, take-append-drop, ⊎_elim}
+use Rattle.std.specs.List.{concat, flat_map, All, AllByRecursion}
+use Rattle.std.proofs.lemmas.List.Elements.{All-same, All-take, All-drop}
 use Rattle.rcp_model.specs.Cut.{cut_after, cut}
 
 -- ---- one step
@@ -77,7 +78,7 @@ module _ (size : List ℕ → Option ℕ) (ok : IsSize size) where
       let long : length (take (suc n) (octet ∷ octets)) ≡ suc n = length-take-le (suc n) (octet ∷ octets) within in
       let rest = subst (λ (k : ℕ). IsCut size (drop n octets) (cut_after size k octets).0 (cut_after size k octets).1) (sym less) (after n (omega arith)) in
       subst (λ (r : List (List ℕ) × List ℕ). IsCut size (octet ∷ octets) r.0 r.1) (sym (cut-cons size (suc n) octet octets e))
-          (drop n octets, sym (take-append-drop (suc n) (octet ∷ octets)), e ∙ ap Some (sym long), rest)
+      (drop n octets, sym (take-append-drop (suc n) (octet ∷ octets)), e ∙ ap Some (sym long), rest)
 
   cut_after_is : (left : ℕ) (octets : List ℕ) → left ≤ length octets → IsCut size (drop left octets) (cut_after size left octets).0 (cut_after size left octets).1
   cut_after_is zero [] le = (refl, inl refl)
@@ -121,6 +122,18 @@ module _ (size : List ℕ → Option ℕ) (ok : IsSize size) where
 
   pub cut-pieces : (octets : List ℕ) → AllByRecursion (λ piece. (more : List ℕ) × (size (piece ++ more) ≡ Some (length piece))) (cut size octets).0
   cut-pieces octets = pieces_in_front (cut size octets).0 octets (cut size octets).1 (cut_is octets)
+
+  -- what holds of each octet holds of each in a piece, and of each in the rest
+  all_of_pieces : (P : ℕ → Type 0) (pieces : List (List ℕ)) (octets rest : List ℕ) → IsCut size octets pieces rest → All P octets → AllByRecursion (All P) pieces
+  all_of_pieces P [] octets rest h all = tt
+  all_of_pieces P (piece ∷ pieces) octets rest h all =
+      let both = All-same P (piece ++ h.0) octets (sym h.1) all in
+      let first : take (length piece) (piece ++ h.0) ≡ piece = take_at piece h.0 (length piece) refl in
+      let after : drop (length piece) (piece ++ h.0) ≡ h.0 = drop_at piece h.0 (length piece) refl in
+      (subst (All P) first (All-take P (length piece) (piece ++ h.0) both), all_of_pieces P pieces h.0 rest h.3 (subst (All P) after (All-drop P (length piece) (piece ++ h.0) both)))
+
+  pub cut-All : (P : ℕ → Type 0) (octets : List ℕ) → All P octets → AllByRecursion (All P) (cut size octets).0
+  cut-All P octets all = all_of_pieces P (cut size octets).0 octets (cut size octets).1 (cut_is octets) all
 
   -- ---- pieces that are put one after another are cut into these again
 

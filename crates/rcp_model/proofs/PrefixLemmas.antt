@@ -1,10 +1,9 @@
 -- What `masked` keeps, and that a prefix's octets are read again.
-use Rattle.std.proofs.Common.{◌≡◌, ℕ, zero, suc, ◌+◌, ◌-◌, ◌*◌, ◌/◌, ◌%◌, ◌^◌, ◌<◌, ◌≤◌, true, leb, List, ◌∷◌, ◌++◌, length, take, Option, Some, refl, sym, ap, ◌∙◌, arith}
+use Rattle.std.proofs.Common.{◌≡◌, ℕ, zero, suc, ◌+◌, ◌-◌, ◌*◌, ◌/◌, ◌%◌, ◌^◌, ◌<◌, ◌≤◌, true, leb, List, ◌∷◌, ◌++◌, length, take, Some, refl, sym, ap, ◌∙◌, arith}
 use Rattle.std.specs.Int.{w32, to_be_bytes}
 use Rattle.std.proofs.lemmas.Bool.{le-leb}
-use Rattle.std.proofs.lemmas.List.{take_at, length-take, length-append, append_cancel_left}
+use Rattle.std.proofs.lemmas.List.{take_at, length-take, length-append}
 use Rattle.std.proofs.lemmas.Nat.{div-add-mod', mod-mul-add, mod-pow-add, pow_pos}
-use Rattle.std.proofs.lemmas.Option.{some_pair_parts, same_Some}
 use Rattle.rcp_base.specs.IpPrefix.{IpPrefix, IsPrefix, masked, octets_for, address_of_octets, prefix_at, prefix_octets}
 
 -- shifting the unused bits out and back in sets them to 0

@@ -1,14 +1,14 @@
 -- Messages: that a header is read from its octets alone, and that octets have one reading.
-use Rattle.std.proofs.Common.{◌≡◌, ◌≢◌, ℕ, zero, suc, ◌+◌, ◌-◌, ◌<◌, ◌≤◌, ◌^◌, Bool, true, false, not, cond, ◌&&◌, ◌⊎◌, inl, inr, ⊎_elim, List, [], ◌∷◌, ◌++◌, length, get_or, take, drop, Option, Some, None, refl, sym, ap, ◌∙◌, subst, arith, ltb, leb, length-append, length-drop, append_assoc, append-nil, le-leb, le-ltb, leb-true, leb-false}
-use Rattle.std.specs.Prelude.{slice_index, is_none}
+use Rattle.std.proofs.Common.{◌≡◌, ℕ, ◌+◌, ◌<◌, ◌≤◌, Bool, true, false, not, cond, ◌&&◌, inl, inr, ⊎_elim, List, [], ◌∷◌, ◌++◌, length, take, drop, Option, Some, None, refl, sym, ap, ◌∙◌, arith, ltb, leb, length-append, length-drop, append_assoc, append-nil, le-leb, le-ltb, leb-true, leb-false}
+use Rattle.std.specs.Prelude.{is_none}
 use Rattle.std.specs.List.{concat, AllByRecursion}
 use Rattle.std.specs.Int.{w16, to_be_bytes, from_be_bytes}
-use Rattle.std.proofs.lemmas.Bool.{and_parts, and_from, and_cases, or_parts, or_from, ltb-false}
+use Rattle.std.proofs.lemmas.Bool.{and_parts, or_parts, or_from, ltb-false}
 use Rattle.std.proofs.lemmas.List.{take-append-le, drop-append-le, get_or_append_left}
 use Rattle.std.proofs.lemmas.Nat.{from_be_bytes-to_be_bytes_2}
-use Rattle.std.proofs.lemmas.Option.{none-some, same_Some, cond_some}
+use Rattle.std.proofs.lemmas.Option.{none-some, cond_some}
 use Rattle.rcp_model.specs.Cut.{cut}
-use Rattle.rcp_model.specs.Messages.{FaultOf, fault, marker, has_marker, length_octets, length_field, type_field, is_outside, least_length, greatest_length, first_failing, header_fault, message_size, IsMessage, IsRest, IsReading, messages_in, rest_of, message_octets}
+use Rattle.rcp_model.specs.Messages.{FaultOf, fault, marker, has_marker, length_octets, length_field, type_field, is_outside, least_length, greatest_length, header_fault, message_size, IsMessage, IsRest, IsReading, messages_in, rest_of, message_octets}
 use Rattle.rcp_model.proofs.CutLemmas.{IsSize, IsLocal, IsFront, cut-stop, cut-whole, cut-pieces, cut-rest, cut-append, cut-concat, cut-later}
 use Rattle.rcp_model.proofs.FaultLemmas.{HasPassed, all_passed, first_failing-None, is_none-true, is_none-false}
 
@@ -103,9 +103,9 @@ IsMessage-seen message more e =
 pub IsFront-message : (message : List ℕ) → IsMessage message → IsFront message_size message
 IsFront-message message whole = record {
   seen = λ more.
-    let long : 19 ≤ length message = whole.has_header in
-    let same : length_field (message ++ more) ≡ length message = length_field-append message more long ∙ sym whole.exact in
-    message_size-from (message ++ more) (omega (arith, length-append message more)) (header_fault-append message more long ∙ whole.faultless) (omega (arith, same, length-append message more)) ∙ ap Some same
+      let long : 19 ≤ length message = whole.has_header in
+      let same : length_field (message ++ more) ≡ length message = length_field-append message more long ∙ sym whole.exact in
+      message_size-from (message ++ more) (omega (arith, length-append message more)) (header_fault-append message more long ∙ whole.faultless) (omega (arith, same, length-append message more)) ∙ ap Some same;
 }
 
 pub IsLocal-message_size : IsLocal message_size

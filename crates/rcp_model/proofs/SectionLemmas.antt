@@ -1,14 +1,17 @@
 -- Sections of an UPDATE: that prefixes that are written one after another are read again.
-use Rattle.std.proofs.Common.{◌≡◌, ℕ, zero, suc, ◌+◌, ◌<◌, ◌≤◌, ◌^◌, Bool, true, false, cond, ◌&&◌, List, [], ◌∷◌, ◌++◌, length, map, take, drop, Option, Some, None, refl, sym, ap, ◌∙◌, arith, leb, length-append, append-nil, leb-true}
+use Rattle.std.proofs.Common.{◌≡◌, ℕ, ◌+◌, ◌<◌, ◌≤◌, ◌&&◌, List, [], ◌∷◌, length, map, take, Option, Some, None, refl, sym, ap, ◌∙◌, arith, subst, ⊎_elim, get_or, replicate, ◌++◌, ◌^◌, leb, append-nil, leb-true}
 use Rattle.std.specs.Prelude.{option_map, filter_map}
-use Rattle.std.specs.List.{concat, flat_map, AllByRecursion}
-use Rattle.std.proofs.lemmas.Bool.{and_parts}
+use Rattle.std.specs.List.{cons_option, flat_map, All, AllByRecursion}
+use Rattle.std.specs.Int.{w32, from_be_bytes}
+use Rattle.std.proofs.lemmas.List.{get_or_past}
+use Rattle.std.proofs.lemmas.List.Elements.{All-take, All-append, All-replicate, All-tail}
+use Rattle.std.proofs.lemmas.Bool.{and_parts, cases_lt}
 use Rattle.std.proofs.lemmas.Option.{none-some, same_Some, cond_some}
 use Rattle.rcp_base.specs.IpPrefix.{IpPrefix, IsPrefix, masked, octets_for, address_of_octets, prefix_at, prefix_octets}
 use Rattle.rcp_model.specs.Cut.{cut}
 use Rattle.rcp_model.specs.Updates.{prefix_size, prefixes_in, prefixes_fault}
-use Rattle.rcp_model.proofs.CutLemmas.{IsSize, IsFront, cut-flat_map_all}
-use Rattle.rcp_model.proofs.PrefixLemmas.{read_again}
+use Rattle.rcp_model.proofs.CutLemmas.{IsSize, IsFront, cut-flat_map_all, cut-All}
+use Rattle.rcp_model.proofs.PrefixLemmas.{read_again, IsPrefix-masked}
 
 -- where a prefix stands at the front, its octets do
 pub record HasPrefix (octets : List ℕ) (p : IpPrefix) (n : ℕ) : Type 0 where
@@ -64,3 +67,38 @@ prefixes_in-written ps each =
 
 pub prefixes_fault-written : (ps : List IpPrefix) → AllByRecursion IsPrefix ps → prefixes_fault (flat_map prefix_octets ps) ≡ None
 prefixes_fault-written ps each = rw (cut-prefixes ps each) refl
+
+-- ---- of octets, each prefix that is read is in form
+
+-- each octet at a place of a list of octets, and 0 past its end
+is_octet : (octets : List ℕ) → All (λ o. o < 256) octets → (i : ℕ) → get_or octets i 0 < 256
+is_octet octets all i = ⊎_elim (λ (lt : i < length octets). all i 0 lt) (λ (le : length octets ≤ i). rw (get_or_past octets i 0 le) (omega arith)) (cases_lt i (length octets))
+
+address-fits : (octets : List ℕ) → All (λ o. o < 256) octets → address_of_octets octets < 2 ^ 32
+address-fits octets all =
+    let bytes = take 4 (octets ++ replicate 4 0) in
+    let each = is_octet bytes (All-take (λ o. o < 256) 4 (octets ++ replicate 4 0) (All-append (λ o. o < 256) octets (replicate 4 0) all (All-replicate (λ o. o < 256) 4 0 (omega arith)))) in
+    fits bytes (each 0) (each 1) (each 2) (each 3) where
+      fits : (bytes : List ℕ) → get_or bytes 0 0 < 256 → get_or bytes 1 0 < 256 → get_or bytes 2 0 < 256 → get_or bytes 3 0 < 256 → from_be_bytes w32 bytes < 2 ^ 32
+      fits bytes a b c d = omega arith
+
+pub IsPrefix-prefix_at : (octets : List ℕ) (p : IpPrefix) (n : ℕ) → All (λ o. o < 256) octets → prefix_at octets ≡ Some (p, n) → IsPrefix p
+IsPrefix-prefix_at [] p n all e = absurd (none-some (p, n) e)
+IsPrefix-prefix_at (len ∷ rest) p n all e =
+    let front = take (octets_for len) rest in
+    let chosen = cond_some (leb len 32 && leb (octets_for len) (length rest)) (record { addr = masked (address_of_octets front) len; len = len }, 1 + octets_for len) (p, n) e in
+    let tests = and_parts (leb len 32) (leb (octets_for len) (length rest)) chosen.0 in
+    let octets = All-take (λ o. o < 256) (octets_for len) rest (All-tail (λ o. o < 256) len rest all) in
+    let same : record { addr = masked (address_of_octets front) len; len = len } ≡ p = ap (λ (found : IpPrefix × ℕ). found.0) chosen.1 in
+    subst IsPrefix same (IsPrefix-masked (address_of_octets front) len (address-fits front octets) (leb-true len 32 tests.0))
+
+first_in_form : (piece : List ℕ) (others : List IpPrefix) (o : Option (IpPrefix × ℕ)) → All (λ o. o < 256) piece → prefix_at piece ≡ o → AllByRecursion IsPrefix others → AllByRecursion IsPrefix (cons_option (option_map (λ (found : IpPrefix × ℕ). found.0) o) others)
+first_in_form piece others None all e each = each
+first_in_form piece others (Some found) all e each = (IsPrefix-prefix_at piece found.0 found.1 all e, each)
+
+each_in_form : (pieces : List (List ℕ)) → AllByRecursion (All (λ o. o < 256)) pieces → AllByRecursion IsPrefix (filter_map (λ piece. option_map (λ (found : IpPrefix × ℕ). found.0) (prefix_at piece)) pieces)
+each_in_form [] each = tt
+each_in_form (piece ∷ pieces) each = first_in_form piece _ (prefix_at piece) each.0 refl (each_in_form pieces each.1)
+
+pub prefixes_in-in_form : (octets : List ℕ) → All (λ o. o < 256) octets → AllByRecursion IsPrefix (prefixes_in octets)
+prefixes_in-in_form octets all = each_in_form (cut prefix_size octets).0 (cut-All prefix_size IsSize-prefix_size (λ o. o < 256) octets all)

@@ -1,15 +1,11 @@
 //! Octets have one reading as messages (RFC 4271 section 4), whatever they are and however they are cut, and what is
 //! written is read again.
 
-ghost use Rattle.std.specs.Prelude.{◌≡◌, ℕ, ◌+◌, ◌≤◌, false, List, ◌∷◌, ◌++◌, length, drop, Some};
-ghost use Rattle.std.specs.List.{concat, flat_map, AllByRecursion};
+ghost use Rattle.std.specs.Prelude.{◌≡◌, ℕ, ◌+◌, ◌<◌, ◌≤◌, false, List, ◌∷◌, ◌++◌, length, drop, Some};
+ghost use Rattle.std.specs.List.{concat, flat_map, All, AllByRecursion};
 ghost use Rattle.rcp_base.specs.IpPrefix.{IpPrefix, IsPrefix, prefix_octets};
-ghost use Rattle.rcp_model.specs.Messages.{
-    is_outside, least_length, greatest_length, type_field, IsMessage, IsReading, messages_in, rest_of, message_octets,
-};
-ghost use Rattle.rcp_model.specs.Updates.{
-    sections_of, prefixes_in, update_octets, Table, withdraw_all, announce_all, after_message,
-};
+ghost use Rattle.rcp_model.specs.Messages.{is_outside, least_length, greatest_length, type_field, IsMessage, IsReading, messages_in, rest_of, message_octets};
+ghost use Rattle.rcp_model.specs.Updates.{sections_of, prefixes_in, update_octets, Table, withdraw_all, announce_all, after_message};
 
 /// Each list of octets is whole messages and then a rest in front of which no whole message stands.
 pub fn octets_are_messages()
@@ -63,15 +59,21 @@ pub fn written_update_is_read_again()
     ensures sections { (withdrawn announced : List IpPrefix) (attributes : List ℕ)
         → length (update_octets withdrawn attributes announced) ≤ 4096
         → sections_of (drop 19 (update_octets withdrawn attributes announced)) ≡ Some (record {
-            withdrawn = flat_map prefix_octets withdrawn;
-            attributes = attributes;
-            nlri = flat_map prefix_octets announced }) }
+          withdrawn = flat_map prefix_octets withdrawn;
+          attributes = attributes;
+          nlri = flat_map prefix_octets announced;
+        }) }
 {}
 
 /// Prefixes that are written one after another are read again, in their order.
 pub fn written_prefixes_are_read_again()
     ensures { (prefixes : List IpPrefix) → AllByRecursion IsPrefix prefixes
         → prefixes_in (flat_map prefix_octets prefixes) ≡ prefixes }
+{}
+
+/// Each prefix that is read has a length of 0 to 32, and no bit after its length is set.
+pub fn read_prefixes_are_in_form()
+    ensures { (octets : List ℕ) → All (λ o. o < 256) octets → AllByRecursion IsPrefix (prefixes_in octets) }
 {}
 
 /// An UPDATE that is written takes its withdrawn prefixes from a table and then sets the announced ones to its attribute
