@@ -10,3 +10,4 @@ pub mod OfferLemmas
 pub mod ServerLemmas
 pub mod RunLemmas
 pub mod MeaningLemmas
+pub mod WalkLemmas

@@ -1,3 +1,4 @@
 //! Laws of the definitions, each the contract of a function with an empty body.
 
 pub mod reading;
+pub mod walks;
