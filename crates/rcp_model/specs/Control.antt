@@ -1,5 +1,5 @@
 -- The route control server: what is announced, what is pending, and what each router was given.
-use Rattle.std.specs.Prelude.{◌≡◌, ℕ, zero, suc, ◌+◌, Bool, true, false, not, ◌&&◌, ◌||◌, ◌==◌, List, [], ◌∷◌, ◌++◌, length, map, filter, filter_map, Option, Some, None, is_some, option_map, nat_lt, if◌then◌else◌, bytes_eq}
+use Rattle.std.specs.Prelude.{◌≡◌, ℕ, zero, suc, ◌+◌, Bool, true, false, not, ◌&&◌, ◌||◌, ◌==◌, List, [], ◌∷◌, ◌++◌, length, map, filter, filter_map, Option, Some, None, is_some, IsSome, slice_get, option_map, nat_lt, if◌then◌else◌, bytes_eq}
 use Rattle.std.specs.List.{list_any}
 use Rattle.std.specs.Int.{w16}
 use Rattle.rcp_base.specs.IpPrefix.{IpPrefix}
@@ -104,6 +104,16 @@ candidates_from domain announcements p cost_to slot (member ∷ members) =
 unfoldable pub candidates : Domain → Announcements → List Edge → ℕ → IpPrefix → List Contender
 candidates domain announcements edges slot p =
     candidates_from domain announcements p (slot_cost edges domain.members slot) 0 domain.members
+
+-- a contender that is a candidate: a member with a usable announcement of the prefix and a cost from the router
+pub record IsCandidate (domain : Domain) (announcements : Announcements) (edges : List Edge) (slot : ℕ) (p : IpPrefix) (a : Contender) : Type 0 where
+  pub member : Member
+  pub seat : slice_get domain.members a.slot ≡ Some member
+  pub octets : List ℕ
+  pub announced : announced_by announcements a.slot p ≡ Some octets
+  pub usable : is_usable (route_in w16 domain.as_number octets) ≡ true
+  pub reached : IsSome (slot_cost edges domain.members slot a.slot)
+  pub compared : a ≡ contender a.slot member.bgp_id (route_in w16 domain.as_number octets)
 
 unfoldable pub choice_of : Domain → Announcements → List Edge → ℕ → IpPrefix → Option ℕ
 choice_of domain announcements edges slot p =

@@ -1,5 +1,5 @@
 -- The decision process (RFC 4271 sections 9.1.1 and 9.1.2.2).
-use Rattle.std.specs.Prelude.{◌≡◌, ℕ, Bool, true, false, not, ◌&&◌, ◌||◌, ◌==◌, List, [], ◌∷◌, filter, Option, Some, None, nat_lt, nat_le, if◌then◌else◌}
+use Rattle.std.specs.Prelude.{◌≡◌, ℕ, Bool, true, false, not, ◌&&◌, ◌||◌, ◌==◌, List, [], ◌∷◌, filter, Contains, Option, Some, None, nat_lt, nat_le, if◌then◌else◌}
 use Rattle.std.specs.List.{list_all, list_any}
 use Rattle.rcp_model.specs.Routes.{RouteFields}
 
@@ -63,3 +63,17 @@ nearest cost (a ∷ list) = if list_any (λ b. is_nearer cost b a) list then nea
 -- else the nearest, by the cost to each slot.
 unfoldable pub choice : ℕ → (ℕ → Option ℕ) → List Contender → Option ℕ
 choice slot cost list = if list_any (is_of slot) (tied list) then Some slot else nearest cost (tied list)
+
+-- ---- the same in other words
+
+-- Whether a route goes before another: by the higher preference, then the shorter path, then the lower origin, then the lower exit from one neighbouring AS.
+abbrev pub goes_before : Contender → Contender → Bool
+goes_before b a =
+    has_higher_preference b a || b.pref == a.pref && (
+    has_shorter_path b a || b.hops == a.hops && (
+    has_lower_origin b a || b.origin == a.origin && has_lower_exit b a))
+
+-- a route of the list than which none of the list is nearer
+pub record IsNearest (cost : ℕ → Option ℕ) (list : List Contender) (a : Contender) : Type 0 where
+  pub among : Contains list a
+  pub least : (b : Contender) → Contains list b → is_nearer cost b a ≡ false
