@@ -10,4 +10,7 @@ pub mod OfferLemmas
 pub mod ServerLemmas
 pub mod RunLemmas
 pub mod MeaningLemmas
+pub mod CandidateLemmas
+pub mod FilterLemmas
+pub mod MemberLemmas
 pub mod WalkLemmas

@@ -1,24 +1,11 @@
 -- Interior costs: the computed cost is the least sum over all walks.
-use Rattle.std.proofs.Common.{◌≡◌, ℕ, zero, suc, ◌+◌, ◌<◌, ◌≤◌, Bool, true, false, cond, ◌&&◌, ◌||◌, ◌==◌, eqb, ◌⊎◌, List, [], ◌∷◌, length, get_or, Contains, Option, Some, None, IsSomeAnd, IfSome, is_some, min, ◌↔◌, refl, sym, ap, subst, inl, inr, add_assoc, zero-add, add-zero, le_antisymm, arith, eqb-true, eq-eqb}
+use Rattle.std.proofs.Common.{◌≡◌, ℕ, ◌+◌, ◌≤◌, Bool, true, false, cond, ◌&&◌, ◌||◌, ◌==◌, eqb, ◌⊎◌, List, [], ◌∷◌, Contains, Option, Some, None, IsSomeAnd, IfSome, is_some, min, ◌↔◌, refl, sym, ap, subst, inl, inr, add_assoc, zero-add, add-zero, le_antisymm, arith, eqb-true, eq-eqb}
 use Rattle.std.specs.List.{list_any}
 use Rattle.std.proofs.lemmas.Bool.{false≢true}
 use Rattle.std.specs.Cmp.{IsEquivalence, equiv, both_ways}
+use Rattle.rcp_model.proofs.MemberLemmas.{Contains-head, Contains-tail, Contains-cases}
 use Rattle.rcp_model.specs.declared.event.Edge.{Edge}
 use Rattle.rcp_model.specs.Costs.{Walk, stay, step, IsCost, lesser, joined, edge_cost, cost_through, entered, cost, is_reached, IsTwoWay}
-
--- ---- members of a list
-
-Contains-head : {X : Type 0} (x : X) (xs : List X) → Contains (x ∷ xs) x
-Contains-head x xs = (0, omega arith, refl)
-
-Contains-tail : {X : Type 0} (x : X) (xs : List X) (y : X) → Contains xs y → Contains (x ∷ xs) y
-Contains-tail x xs y member = (suc member.0, omega arith, member.2)
-
-Contains-cases : {X : Type 0} (x : X) (xs : List X) (y : X) → Contains (x ∷ xs) y → (x ≡ y) ⊎ Contains xs y
-Contains-cases x xs y member = at_place x xs y member.0 member.1 member.2 where
-  at_place : {X : Type 0} (x : X) (xs : List X) (y : X) (k : ℕ) → k < length (x ∷ xs) → get_or (x ∷ xs) k y ≡ y → (x ≡ y) ⊎ Contains xs y
-  at_place x xs y zero within same = inl same
-  at_place x xs y (suc k) within same = inr (k, omega arith, same)
 
 -- ---- some cost of at most a number
 

@@ -1,4 +1,6 @@
 //! Laws of the definitions, each the contract of a function with an empty body.
 
 pub mod reading;
+pub mod candidates;
+pub mod filters;
 pub mod walks;
