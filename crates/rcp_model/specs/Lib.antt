@@ -14,3 +14,4 @@ pub mod Feed
 pub mod Meaning
 pub mod Examples
 pub mod Plain
+pub mod Contests

@@ -3,4 +3,5 @@
 pub mod reading;
 pub mod candidates;
 pub mod filters;
+pub mod readings;
 pub mod walks;
