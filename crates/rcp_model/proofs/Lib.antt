@@ -1,7 +1,6 @@
 pub mod CutLemmas
 pub mod FaultLemmas
 pub mod ReadingLemmas
-pub mod PrefixLemmas
 pub mod SectionLemmas
 pub mod UpdateLemmas
 mod Computed
@@ -14,3 +13,4 @@ pub mod CandidateLemmas
 pub mod FilterLemmas
 pub mod MemberLemmas
 pub mod WalkLemmas
+pub mod CodecLemmas

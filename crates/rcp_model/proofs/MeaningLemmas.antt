@@ -1,7 +1,7 @@
 -- The headline: after each record the octets sent to each connection replay to its table, and tables are the offers where nothing is touched.
-use Rattle.std.proofs.Common.{◌≡◌, ℕ, suc, ◌+◌, ◌^◌, ◌≤◌, ◌<◌, Bool, true, false, cond, not, ◌&&◌, ◌||◌, eqb, ltb, List, [], ◌∷◌, ◌++◌, length, map, get_or, drop, Option, Some, None, refl, sym, ap, subst, ◌∙◌, ◌⊎◌, inl, inr, arith, append_assoc}
+use Rattle.std.proofs.Common.{◌≡◌, ℕ, suc, ◌+◌, ◌^◌, ◌≤◌, ◌<◌, Bool, true, false, cond, not, ◌&&◌, ◌||◌, eqb, ltb, List, [], ◌∷◌, ◌++◌, length, map, drop, Option, Some, None, refl, sym, ap, subst, ◌∙◌, ◌⊎◌, inl, inr, arith, append_assoc}
 use Rattle.std.specs.Prelude.{filter, is_some, is_none}
-use Rattle.std.specs.List.{list_any, list_all, concat, AllByRecursion}
+use Rattle.std.specs.List.{list_any, list_all, concat, All, AllByRecursion}
 use Rattle.std.specs.Int.{w16, w32, from_be_bytes}
 use Rattle.std.proofs.lemmas.Bool.{cases_Bool, and_parts, and_from, and_left, and_right, or_cases, or_parts, or_from, eqb-true, eqb-false, eq-eqb, ne_eqb, ltb-true, not-true, both_ways}
 use Rattle.std.proofs.lemmas.List.{append-nil}
@@ -19,7 +19,8 @@ use Rattle.rcp_model.specs.Meaning.{Connection, Established, slot_in, slot_on, P
 use Rattle.rcp_model.proofs.MapLemmas.{get_at-put_at_same, get_at-put_at_other}
 use Rattle.rcp_model.proofs.OfferLemmas.{offer-fits}
 use Rattle.rcp_model.proofs.ServerLemmas.{number_test, AreCanonical, Settled, settled-up, settled-change, settled-work}
-use Rattle.rcp_model.proofs.RunLemmas.{CellUpdates, Replays, Replays-replay, Replays-nothing, after_messages-append, all-append, FitsAt, FitsAt-from, cells-whole, cells-effect, Worked, worked-all}
+use Rattle.rcp_model.proofs.UpdateLemmas.{after_messages-append}
+use Rattle.rcp_model.proofs.RunLemmas.{CellUpdates, Replays, Replays-replay, Replays-nothing, all-append, FitsAt, FitsAt-from, cells-whole, cells-effect, Worked, worked-all}
 
 -- ---- events of the records of today
 
@@ -161,9 +162,9 @@ sent_to-drained n slot ps before now (c ∷ cs) d h =
 
 -- What the octets of a faultless UPDATE give: prefixes in form, and attributes whose canonical octets are read as themselves.
 pub record ReadsUpdates : Type 0 where
-  pub withdrawn : (octets : List ℕ) → ((i : ℕ) → get_or octets i 0 < 256) → is_faultless_update octets ≡ true → AllByRecursion IsPrefix (changes_of (drop 19 octets)).withdrawn
-  pub announced : (octets : List ℕ) → ((i : ℕ) → get_or octets i 0 < 256) → is_faultless_update octets ≡ true → AllByRecursion IsPrefix (changes_of (drop 19 octets)).announced
-  pub attributes : (octets : List ℕ) → ((i : ℕ) → get_or octets i 0 < 256) → is_faultless_update octets ≡ true
+  pub withdrawn : (octets : List ℕ) → All (λ o. o < 256) octets → is_faultless_update octets ≡ true → AllByRecursion IsPrefix (changes_of (drop 19 octets)).withdrawn
+  pub announced : (octets : List ℕ) → All (λ o. o < 256) octets → is_faultless_update octets ≡ true → AllByRecursion IsPrefix (changes_of (drop 19 octets)).announced
+  pub attributes : (octets : List ℕ) → All (λ o. o < 256) octets → is_faultless_update octets ≡ true
     → canonical_octets (attributes_in (canonical_octets (changes_of (drop 19 octets)).attributes)) ≡ canonical_octets (changes_of (drop 19 octets)).attributes
 
 pub record Kept (platform : Platform) (outs : List OutRecord) : Type 0 where
@@ -281,7 +282,7 @@ kept-seated platform outs number (Some slot) h =
 
 -- ---- an UPDATE is heard
 
-told_again : (platform : Platform) (outs : List OutRecord) (slot : ℕ) (octets : List ℕ) → ReadsUpdates → ((i : ℕ) → get_or octets i 0 < 256) → is_faultless_update octets ≡ true
+told_again : (platform : Platform) (outs : List OutRecord) (slot : ℕ) (octets : List ℕ) → ReadsUpdates → All (λ o. o < 256) octets → is_faultless_update octets ≡ true
   → Kept platform outs → Kept (record platform { server = after_all (domain_of platform.roster) (update_events slot (changes_of (drop 19 octets))) platform.server }) outs
 told_again platform outs slot octets reads small faultless h = record {
   settled = settled-all (domain_of platform.roster) (update_events slot (changes_of (drop 19 octets))) platform.server
@@ -297,7 +298,7 @@ told_again platform outs slot octets reads small faultless h = record {
   same : (after_all (domain_of platform.roster) (update_events slot (changes_of (drop 19 octets))) platform.server).tables ≡ platform.server.tables
   same = update-tables (domain_of platform.roster) slot (changes_of (drop 19 octets)) platform.server
 
-kept-heard : (platform : Platform) (outs : List OutRecord) (octets : List ℕ) (found : Option ℕ) → ReadsUpdates → ((i : ℕ) → get_or octets i 0 < 256)
+kept-heard : (platform : Platform) (outs : List OutRecord) (octets : List ℕ) (found : Option ℕ) → ReadsUpdates → All (λ o. o < 256) octets
   → Kept platform outs → Kept (heard platform octets found) outs
 kept-heard platform outs octets None reads small h = h
 kept-heard platform outs octets (Some slot) reads small h =
@@ -383,7 +384,7 @@ module _ (codec : CellUpdates) (platform : Platform) (outs : List OutRecord) (h 
 
 -- the octets of a record's body
 abbrev pub HasOctets : FeedRecord → Type 0
-HasOctets item = (i : ℕ) → get_or item.body i 0 < 256
+HasOctets item = All (λ o. o < 256) item.body
 
 kept-quiet : (platform : Platform) (outs : List OutRecord) → Kept platform outs → Kept platform (outs ++ [])
 kept-quiet platform outs h = rw (append-nil outs) h

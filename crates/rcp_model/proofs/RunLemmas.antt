@@ -18,6 +18,7 @@ use Rattle.rcp_model.specs.Feed.{OCTETS, SUMMARY}
 use Rattle.rcp_model.specs.Meaning.{Connection, Established, slot_in, slot_on, OutRecord, cell_update, cell_of, changed_cells, messages_to, drained, summary, sent_to, work_events}
 use Rattle.rcp_model.proofs.MapLemmas.{get_at-set_at_same, get_at-set_at_other, same_prefix-is, same_prefix-itself, same_prefix-other, prefix_test}
 use Rattle.rcp_model.proofs.ServerLemmas.{worked-table}
+use Rattle.rcp_model.proofs.UpdateLemmas.{after_messages-append}
 
 -- What holds of an UPDATE for one cell, and of a list of messages: the codec's part, shown elsewhere.
 pub record CellUpdates : Type 0 where
@@ -42,11 +43,6 @@ Replays-replay codec octets table p h =
 pub Replays-nothing : Replays [] []
 unfolding after_messages
 Replays-nothing = record { messages = []; whole = refl; each = tt; gives = λ p. refl }
-
-pub after_messages-append : (ms ns : List (List ℕ)) (table : Table) → after_messages (ms ++ ns) table ≡ after_messages ns (after_messages ms table)
-unfolding after_messages
-after_messages-append [] ns table = refl
-after_messages-append (m ∷ ms) ns table = after_messages-append ms ns (after_message m table)
 
 pub all-append : {X : Type 0} (P : X → Type 0) (xs ys : List X) → AllByRecursion P xs → AllByRecursion P ys → AllByRecursion P (xs ++ ys)
 all-append P [] ys h g = g

@@ -11,7 +11,7 @@ use Rattle.rcp_base.specs.IpPrefix.{IpPrefix, IsPrefix, masked, octets_for, addr
 use Rattle.rcp_model.specs.Cut.{cut}
 use Rattle.rcp_model.specs.Updates.{prefix_size, prefixes_in, prefixes_fault}
 use Rattle.rcp_model.proofs.CutLemmas.{IsSize, IsFront, cut-flat_map_all, cut-All}
-use Rattle.rcp_model.proofs.PrefixLemmas.{read_again, IsPrefix-masked}
+use Rattle.rcp_base.proofs.PrefixLemmas.{read_again, IsPrefix-masked}
 
 -- where a prefix stands at the front, its octets do
 pub record HasPrefix (octets : List ℕ) (p : IpPrefix) (n : ℕ) : Type 0 where

@@ -112,14 +112,3 @@ pub after_messages-append : (first second : List (List ℕ)) (table : Table) →
 unfolding after_messages
 after_messages-append [] second table = refl
 after_messages-append (message ∷ first) second table = after_messages-append first second (after_message message table)
-
--- whole messages and then a last one: it is applied to what the others came to
-pub replay-push : (messages : List (List ℕ)) (message : List ℕ) → AllByRecursion IsMessage messages → IsMessage message
-    → replay (concat messages ++ message) ≡ after_message message (replay (concat messages))
-unfolding replay after_messages
-replay-push messages message each whole =
-    let alone : messages_in message ≡ message ∷ [] = ap messages_in (sym (append-nil message)) ∙ (messages_in-cons message [] whole).0 in
-    let all : messages_in (concat messages) ≡ messages = ap messages_in (sym (append-nil (concat messages))) ∙ (messages_in-concat messages [] each).0 ∙ append-nil messages in
-    ap (λ (l : List (List ℕ)). after_messages l []) ((messages_in-concat messages message each).0 ∙ ap (λ (l : List (List ℕ)). messages ++ l) alone)
-    ∙ after_messages-append messages (message ∷ []) []
-    ∙ ap (λ (l : List (List ℕ)). after_message message (after_messages l [])) (sym all)
