@@ -1,8 +1,12 @@
 pub mod CutLemmas
 pub mod FaultLemmas
+pub mod OctetLemmas
 pub mod ReadingLemmas
 pub mod SectionLemmas
 pub mod UpdateLemmas
+pub mod AttributeLemmas
+pub mod CanonicalLemmas
+pub mod RouteLemmas
 mod Computed
 pub mod MapLemmas
 pub mod OfferLemmas

@@ -12,6 +12,7 @@ use Rattle.rcp_model.specs.Cut.{cut}
 use Rattle.rcp_model.specs.Updates.{prefix_size, prefixes_in, prefixes_fault}
 use Rattle.rcp_model.proofs.CutLemmas.{IsSize, IsFront, cut-flat_map_all, cut-All}
 use Rattle.rcp_base.proofs.PrefixLemmas.{read_again, IsPrefix-masked}
+use Rattle.rcp_model.proofs.OctetLemmas.{four_octets-fit}
 
 -- where a prefix stands at the front, its octets do
 pub record HasPrefix (octets : List ℕ) (p : IpPrefix) (n : ℕ) : Type 0 where
@@ -70,17 +71,9 @@ prefixes_fault-written ps each = rw (cut-prefixes ps each) refl
 
 -- ---- of octets, each prefix that is read is in form
 
--- each octet at a place of a list of octets, and 0 past its end
-is_octet : (octets : List ℕ) → All (λ o. o < 256) octets → (i : ℕ) → get_or octets i 0 < 256
-is_octet octets all i = ⊎_elim (λ (lt : i < length octets). all i 0 lt) (λ (le : length octets ≤ i). rw (get_or_past octets i 0 le) (omega arith)) (cases_lt i (length octets))
-
 address-fits : (octets : List ℕ) → All (λ o. o < 256) octets → address_of_octets octets < 2 ^ 32
 address-fits octets all =
-    let bytes = take 4 (octets ++ replicate 4 0) in
-    let each = is_octet bytes (All-take (λ o. o < 256) 4 (octets ++ replicate 4 0) (All-append (λ o. o < 256) octets (replicate 4 0) all (All-replicate (λ o. o < 256) 4 0 (omega arith)))) in
-    fits bytes (each 0) (each 1) (each 2) (each 3) where
-      fits : (bytes : List ℕ) → get_or bytes 0 0 < 256 → get_or bytes 1 0 < 256 → get_or bytes 2 0 < 256 → get_or bytes 3 0 < 256 → from_be_bytes w32 bytes < 2 ^ 32
-      fits bytes a b c d = omega arith
+    four_octets-fit (take 4 (octets ++ replicate 4 0)) (All-take (λ o. o < 256) 4 (octets ++ replicate 4 0) (All-append (λ o. o < 256) octets (replicate 4 0) all (All-replicate (λ o. o < 256) 4 0 (omega arith))))
 
 pub IsPrefix-prefix_at : (octets : List ℕ) (p : IpPrefix) (n : ℕ) → All (λ o. o < 256) octets → prefix_at octets ≡ Some (p, n) → IsPrefix p
 IsPrefix-prefix_at [] p n all e = absurd (none-some (p, n) e)
