@@ -1,14 +1,14 @@
 -- Attributes in octets: that each is read from its own octets alone, and that one that is written is read again.
-use Rattle.std.proofs.Common.{◌≡◌, ℕ, zero, suc, ◌+◌, ◌*◌, ◌/◌, ◌%◌, ◌<◌, ◌≤◌, Bool, true, false, cond, ◌&&◌, ⊎_elim, List, [], ◌∷◌, ◌++◌, length, map, get_or, take, drop, Option, Some, None, refl, sym, ap, ◌∙◌, subst, arith, eqb, leb, eqb-true, eq-eqb, ne_eqb, le-leb, leb-true, leb-false, length-append, length-drop}
+use Rattle.std.proofs.Common.{◌≡◌, ℕ, ◌+◌, ◌%◌, ◌<◌, ◌≤◌, Bool, true, false, cond, ⊎_elim, List, [], ◌∷◌, ◌++◌, length, map, take, drop, Some, refl, sym, ap, ◌∙◌, subst, arith, leb, eq-eqb, ne_eqb, le-leb, leb-true, length-append, length-drop}
 use Rattle.std.specs.Prelude.{slice_index}
 use Rattle.std.specs.List.{All, AllByRecursion}
 use Rattle.std.proofs.lemmas.List.Elements.{All-take, All-drop}
-use Rattle.std.specs.Int.{w16, to_be_bytes, from_be_bytes}
-use Rattle.std.proofs.lemmas.Bool.{and_parts, and_from, eqb-false, cases_Bool}
+use Rattle.std.specs.Int.{w16, to_be_bytes}
+use Rattle.std.proofs.lemmas.Bool.{and_parts, cases_Bool}
 use Rattle.std.proofs.lemmas.List.{take-append-le, drop-append-le, get_or_append_left}
 use Rattle.std.proofs.lemmas.Nat.{from_be_bytes-to_be_bytes_2}
 use Rattle.std.proofs.lemmas.Option.{cond_some}
-use Rattle.rcp_model.specs.Attributes.{Attribute, has_flag, is_extended, value_place, value_length, attribute_size, attribute_of, attributes_in, attribute_octets}
+use Rattle.rcp_model.specs.Attributes.{Attribute, is_extended, value_place, value_length, attribute_size, attribute_of, attributes_in, attribute_octets}
 use Rattle.rcp_model.proofs.CutLemmas.{IsSize, IsLocal, IsFront, cut-pieces, cut-All}
 use Rattle.rcp_model.proofs.OctetLemmas.{octet-fits, two_octets-fit}
 use Rattle.rcp_model.specs.Cut.{cut}
@@ -169,12 +169,12 @@ module _ (a : Attribute) (plain : a.flags % 32 ≡ 0) where
 
   pub IsAttribute-attribute_octets : length a.value < 65536 → IsAttribute (attribute_octets a)
   IsAttribute-attribute_octets fits = ⊎_elim
-    (λ (e : leb (length a.value) 255 ≡ true). subst IsAttribute (sym (attribute_octets-short e)) (record { has_head = omega (arith, short_place); exact = omega (arith, short_place, short_length) }))
-    (λ (e : leb (length a.value) 255 ≡ false). subst IsAttribute (sym (attribute_octets-long e)) (record { has_head = omega (arith, long_place); exact = omega (arith, long_place, long_length fits) }))
-    (cases_Bool (leb (length a.value) 255))
+      (λ (e : leb (length a.value) 255 ≡ true). subst IsAttribute (sym (attribute_octets-short e)) (record { has_head = omega (arith, short_place); exact = omega (arith, short_place, short_length) }))
+      (λ (e : leb (length a.value) 255 ≡ false). subst IsAttribute (sym (attribute_octets-long e)) (record { has_head = omega (arith, long_place); exact = omega (arith, long_place, long_length fits) }))
+      (cases_Bool (leb (length a.value) 255))
 
   pub attribute_of-attribute_octets : attribute_of (attribute_octets a) ≡ read_back a
   attribute_of-attribute_octets = ⊎_elim
-    (λ (e : leb (length a.value) 255 ≡ true). ap attribute_of (attribute_octets-short e) ∙ rw (e, short_place) refl)
-    (λ (e : leb (length a.value) 255 ≡ false). ap attribute_of (attribute_octets-long e) ∙ rw (e, long_place) refl)
-    (cases_Bool (leb (length a.value) 255))
+      (λ (e : leb (length a.value) 255 ≡ true). ap attribute_of (attribute_octets-short e) ∙ rw (e, short_place) refl)
+      (λ (e : leb (length a.value) 255 ≡ false). ap attribute_of (attribute_octets-long e) ∙ rw (e, long_place) refl)
+      (cases_Bool (leb (length a.value) 255))

@@ -1,12 +1,13 @@
 -- The canonical form of attributes: reading it again gives it again.
-use Rattle.std.proofs.Common.{◌≡◌, ℕ, zero, suc, ◌+◌, ◌/◌, ◌%◌, ◌<◌, ◌≤◌, Bool, true, false, not, cond, ◌&&◌, ◌||◌, ⊎_elim, List, [], ◌∷◌, ◌++◌, length, map, Option, Some, None, refl, sym, ap, ◌∙◌, subst, arith, eqb, ltb, leb, eqb-true, eq-eqb, ne_eqb, le-leb, leb-true, leb-false, lt-ltb, le-ltb, ltb-true, ltb-false}
+use Rattle.std.proofs.Common.{◌≡◌, ℕ, zero, suc, ◌+◌, ◌/◌, ◌%◌, ◌<◌, ◌≤◌, Bool, true, false, cond, ◌&&◌, List, [], ◌∷◌, ◌++◌, length, get_or, map, Option, Some, None, refl, sym, ap, ◌∙◌, subst, arith, eqb, ltb, leb, eqb-true, ne_eqb, leb-true, le-ltb, ltb-true, ltb-false}
 use Rattle.std.specs.Prelude.{filter, is_some}
 use Rattle.std.specs.List.{flat_map, All, AllByRecursion}
+use Rattle.std.specs.List.Sorted.{IsNonDecreasingBy}
 use Rattle.std.specs.Int.{w16, to_be_bytes}
 use Rattle.std.proofs.lemmas.List.Elements.{All-nil, All-append, All-from_recursion}
 use Rattle.std.proofs.lemmas.Bool.{cond_both, false≢true}
 use Rattle.rcp_model.specs.Cut.{cut}
-use Rattle.rcp_model.specs.Attributes.{Attribute, LOCAL_PREF, AGGREGATOR, is_recognised, is_optional, is_transitive, is_partial, category, attribute_size, attribute_of, attributes_in, value_of, is_kept, written_flags, written, insert_by_type, by_type, default_pref, with_pref, canonical, attribute_octets, canonical_octets}
+use Rattle.rcp_model.specs.Attributes.{Attribute, LOCAL_PREF, is_recognised, is_partial, category, attribute_size, attribute_of, attributes_in, value_of, is_kept, written_flags, written, insert_by_type, by_type, default_pref, with_pref, canonical, attribute_octets, canonical_octets}
 use Rattle.rcp_model.proofs.CutLemmas.{IsFront, cut-flat_map_all}
 use Rattle.rcp_model.proofs.AttributeLemmas.{IsSize-attribute_size, IsFront-attribute, IsAttribute-attribute_octets, attribute_of-attribute_octets, read_back, IsShort, HasOctets}
 
@@ -169,7 +170,7 @@ module _ (kind : ℕ) where
   value_of-insert a (b ∷ list) =
       cond_both (ltb b.kind a.kind) (b ∷ insert_by_type a list) (a ∷ b ∷ list) (λ (l : List Attribute). value_of kind l ≡ value_of kind (a ∷ b ∷ list))
       (λ lt. ap (λ (o : Option (List ℕ)). cond (eqb b.kind kind) (Some b.value) o) (value_of-insert a list)
-          ∙ swapped (eqb b.kind kind) (eqb a.kind kind) (Some b.value) (Some a.value) (value_of kind list) (not_both a.kind b.kind kind (ltb-true b.kind a.kind lt)))
+      ∙ swapped (eqb b.kind kind) (eqb a.kind kind) (Some b.value) (Some a.value) (value_of kind list) (not_both a.kind b.kind kind (ltb-true b.kind a.kind lt)))
       (λ _. refl)
 
   value_of-by_type : (list : List Attribute) → value_of kind (by_type list) ≡ value_of kind list
@@ -321,8 +322,8 @@ written_flags-fit a =
     cond_both (is_recognised a.kind) (category a.kind + cond (leb 7 a.kind && is_partial a.flags) 32 0) 224 (λ (n : ℕ). n ≤ 224)
     (λ _. cond_both (leb 7 a.kind && is_partial a.flags) 32 0 (λ (n : ℕ). category a.kind + n ≤ 224) (λ _. omega (arith, category-fits a.kind)) (λ _. omega (arith, category-fits a.kind)))
     (λ _. omega arith) where
-  category-fits : (kind : ℕ) → category kind ≤ 192
-  category-fits kind = cond_both (eqb kind 4) 128 (cond (ltb kind 7) 64 192) (λ (n : ℕ). n ≤ 192) (λ _. omega arith) (λ _. cond_both (ltb kind 7) 64 192 (λ (n : ℕ). n ≤ 192) (λ _. omega arith) (λ _. omega arith))
+      category-fits : (kind : ℕ) → category kind ≤ 192
+      category-fits kind = cond_both (eqb kind 4) 128 (cond (ltb kind 7) 64 192) (λ (n : ℕ). n ≤ 192) (λ _. omega arith) (λ _. cond_both (ltb kind 7) 64 192 (λ (n : ℕ). n ≤ 192) (λ _. omega arith) (λ _. omega arith))
 
 attribute_octets-All : (a : Attribute) → IsWritten a → HasOctets a → All (λ o. o < 256) (attribute_octets a)
 unfolding attribute_octets
@@ -332,9 +333,9 @@ attribute_octets-All a w octets =
     let P : ℕ → Type 0 = λ o. o < 256 in
     cond_both (leb (length a.value) 255) (a.flags ∷ a.kind ∷ length a.value ∷ a.value) ((a.flags + 16) ∷ a.kind ∷ (to_be_bytes w16 (length a.value) ++ a.value)) (All P)
     (λ short. let few : length a.value < 256 = omega (arith, leb-true _ _ short) in
-        All-append P (a.flags ∷ a.kind ∷ length a.value ∷ []) a.value (All-from_recursion P (a.flags ∷ a.kind ∷ length a.value ∷ []) (omega arith)) octets.value)
+    All-append P (a.flags ∷ a.kind ∷ length a.value ∷ []) a.value (All-from_recursion P (a.flags ∷ a.kind ∷ length a.value ∷ []) (omega arith)) octets.value)
     (λ _. let head = (a.flags + 16) ∷ a.kind ∷ to_be_bytes w16 (length a.value) in
-        All-append P head a.value (All-from_recursion P head (omega arith)) octets.value)
+    All-append P head a.value (All-from_recursion P head (omega arith)) octets.value)
 
 all_octets : (list : List Attribute) → AllByRecursion IsWritten list → AllByRecursion HasOctets list → All (λ o. o < 256) (flat_map attribute_octets list)
 all_octets [] each octets = All-nil (λ o. o < 256)
@@ -357,12 +358,34 @@ canonical_octets-All list short octets =
 
 -- ---- types and values, as they are read again
 
-abbrev pub kind_and_value : Attribute → ℕ × List ℕ
-kind_and_value a = (a.kind, a.value)
+same_kinds : (list : List Attribute) → map (λ a. a.kind) (map read_back list) ≡ map (λ a. a.kind) list
+same_kinds [] = refl
+same_kinds (a ∷ list) = rw (kind-read_back a, same_kinds list) refl
 
-same_kinds_and_values : (list : List Attribute) → map kind_and_value (map read_back list) ≡ map kind_and_value list
-same_kinds_and_values [] = refl
-same_kinds_and_values (a ∷ list) = rw (kind-read_back a, value-read_back a, same_kinds_and_values list) refl
+same_values : (list : List Attribute) → map (λ a. a.value) (map read_back list) ≡ map (λ a. a.value) list
+same_values [] = refl
+same_values (a ∷ list) = rw (value-read_back a, same_values list) refl
 
-pub kinds_and_values_again : (list : List Attribute) → AllByRecursion IsShort list → map kind_and_value (attributes_in (canonical_octets list)) ≡ map kind_and_value (canonical list)
-kinds_and_values_again list short = ap (map kind_and_value) (attributes_in-canonical list short) ∙ same_kinds_and_values (canonical list)
+pub kinds_again : (list : List Attribute) → AllByRecursion IsShort list → map (λ a. a.kind) (attributes_in (canonical_octets list)) ≡ map (λ a. a.kind) (canonical list)
+kinds_again list short = ap (map (λ (a : Attribute). a.kind)) (attributes_in-canonical list short) ∙ same_kinds (canonical list)
+
+pub values_again : (list : List Attribute) → AllByRecursion IsShort list → map (λ a. a.value) (attributes_in (canonical_octets list)) ≡ map (λ a. a.value) (canonical list)
+values_again list short = ap (map (λ (a : Attribute). a.value)) (attributes_in-canonical list short) ∙ same_values (canonical list)
+
+-- ---- the order of types, by places
+
+kind_at : (n : ℕ) (list : List Attribute) → AllByRecursion (λ b. n ≤ b.kind) list → (j : ℕ) (d : Attribute) → j < length list → n ≤ (get_or list j d).kind
+kind_at n [] each j d lt = absurd (omega arith)
+kind_at n (a ∷ list) each zero d lt = each.0
+kind_at n (a ∷ list) each (suc j) d lt = kind_at n list each.1 j d (omega arith)
+
+never_falls : (list : List Attribute) → IsRising list → IsNonDecreasingBy (λ a. a.kind) list
+never_falls [] rising i j d le lt = absurd (omega arith)
+never_falls (a ∷ list) rising zero zero d le lt = omega arith
+never_falls (a ∷ list) rising zero (suc j) d le lt = kind_at a.kind list rising.0 j d (omega arith)
+never_falls (a ∷ list) rising (suc i) zero d le lt = absurd (omega arith)
+never_falls (a ∷ list) rising (suc i) (suc j) d le lt = never_falls list rising.1 i j d (omega arith) (omega arith)
+
+pub canonical-rising : (list : List Attribute) → IsNonDecreasingBy (λ a. a.kind) (canonical list)
+unfolding canonical
+canonical-rising list = never_falls (by_type (with_pref (map written (filter is_kept list)))) (by_type-rising (with_pref (map written (filter is_kept list))))

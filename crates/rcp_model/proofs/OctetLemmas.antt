@@ -1,5 +1,5 @@
 -- Octets: numbers below 256, and the numbers that two and four of them are.
-use Rattle.std.proofs.Common.{◌≡◌, ℕ, ◌<◌, ◌≤◌, ◌^◌, List, length, get_or, arith, ⊎_elim}
+use Rattle.std.proofs.Common.{ℕ, ◌<◌, ◌≤◌, ◌^◌, List, length, get_or, arith, ⊎_elim}
 use Rattle.std.specs.List.{All}
 use Rattle.std.specs.Int.{w16, w32, from_be_bytes}
 use Rattle.std.proofs.lemmas.Bool.{cases_lt}

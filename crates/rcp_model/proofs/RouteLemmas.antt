@@ -1,10 +1,9 @@
 -- Routes: that every field follows from the canonical octets, and what each route keeps.
-use Rattle.std.proofs.Common.{◌≡◌, ℕ, ◌<◌, true, List, Option, Some, None, refl, sym, ap, ◌∙◌, eqb, false}
-use Rattle.std.specs.Prelude.{is_some}
+use Rattle.std.proofs.Common.{◌≡◌, ℕ, ◌<◌, true, List, Option, Some, None, refl, ap, ◌∙◌, eqb, false}
 use Rattle.std.specs.List.{All, AllByRecursion}
 use Rattle.std.specs.Int.{Width}
-use Rattle.rcp_model.specs.Attributes.{Attribute, ORIGIN, AS_PATH, NEXT_HOP, MULTI_EXIT_DISC, LOCAL_PREF, is_recognised, value_of, attributes_in, canonical, canonical_octets, has_route}
-use Rattle.rcp_model.specs.Routes.{RouteFields, number_or, route_of, IsRoute}
+use Rattle.rcp_model.specs.Attributes.{Attribute, ORIGIN, AS_PATH, NEXT_HOP, MULTI_EXIT_DISC, LOCAL_PREF, is_recognised, value_of, attributes_in, canonical_octets, has_route}
+use Rattle.rcp_model.specs.Routes.{number_or, route_of, IsRoute}
 use Rattle.rcp_model.proofs.AttributeLemmas.{IsShort, IsShort-attributes_in}
 use Rattle.rcp_model.proofs.CanonicalLemmas.{canonical_octets_again, value_of-again, value_of-canonical, pref-canonical, pref_or}
 

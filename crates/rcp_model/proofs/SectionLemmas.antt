@@ -1,11 +1,9 @@
 -- Sections of an UPDATE: that prefixes that are written one after another are read again.
-use Rattle.std.proofs.Common.{◌≡◌, ℕ, ◌+◌, ◌<◌, ◌≤◌, ◌&&◌, List, [], ◌∷◌, length, map, take, Option, Some, None, refl, sym, ap, ◌∙◌, arith, subst, ⊎_elim, get_or, replicate, ◌++◌, ◌^◌, leb, append-nil, leb-true}
+use Rattle.std.proofs.Common.{◌≡◌, ℕ, ◌+◌, ◌<◌, ◌≤◌, ◌&&◌, List, [], ◌∷◌, length, map, take, Option, Some, None, refl, sym, ap, ◌∙◌, arith, subst, replicate, ◌++◌, ◌^◌, leb, append-nil, leb-true}
 use Rattle.std.specs.Prelude.{option_map, filter_map}
 use Rattle.std.specs.List.{cons_option, flat_map, All, AllByRecursion}
-use Rattle.std.specs.Int.{w32, from_be_bytes}
-use Rattle.std.proofs.lemmas.List.{get_or_past}
 use Rattle.std.proofs.lemmas.List.Elements.{All-take, All-append, All-replicate, All-tail}
-use Rattle.std.proofs.lemmas.Bool.{and_parts, cases_lt}
+use Rattle.std.proofs.lemmas.Bool.{and_parts}
 use Rattle.std.proofs.lemmas.Option.{none-some, same_Some, cond_some}
 use Rattle.rcp_base.specs.IpPrefix.{IpPrefix, IsPrefix, masked, octets_for, address_of_octets, prefix_at, prefix_octets}
 use Rattle.rcp_model.specs.Cut.{cut}

@@ -1,5 +1,6 @@
 //! Laws of the definitions, each the contract of a function with an empty body.
 
+pub mod canonical_form;
 pub mod reading;
 pub mod candidates;
 pub mod filters;
