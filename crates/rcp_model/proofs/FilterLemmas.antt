@@ -1,11 +1,13 @@
 -- The decision process: what its filters leave, and which of it is chosen.
-use Rattle.std.proofs.Common.{◌≡◌, ◌≢◌, ℕ, Bool, true, false, cond, not, ◌&&◌, ◌||◌, ◌==◌, nat_lt, ◌⊎◌, ◌↔◌, List, [], ◌∷◌, Contains, Option, Some, None, IsSome, refl, sym, ap, subst, ◌∙◌, inl, inr, arith, eq-eqb, ne_eqb, eqb-true}
+use Rattle.std.proofs.Common.{◌≡◌, ◌≢◌, ℕ, Bool, true, false, cond, not, ◌&&◌, ◌||◌, ◌==◌, nat_lt, ◌⊎◌, ◌↔◌, List, [], ◌∷◌, ◌++◌, Contains, Option, Some, None, IsSome, option_map, if◌then◌else◌, refl, sym, ap, subst, ◌∙◌, inl, inr, arith, eq-eqb, ne_eqb, eqb-true}
 use Rattle.std.specs.List.{list_any}
 use Rattle.std.specs.Cmp.{both_ways}
+use Rattle.std.proofs.lemmas.List.Folds.{list_any-append}
+use Rattle.std.proofs.Math.Bool.{or-false}
 use Rattle.std.proofs.lemmas.Bool.{false≢true}
 use Rattle.std.proofs.lemmas.Bool.Decides.{nat_tests}
 use Rattle.rcp_model.proofs.MemberLemmas.{Contains-head, Contains-tail, Contains-cases, Contains-filled, any_member, any_from_member, none_at_member, none_from_members, filter_member, member_of_filter, filter_alike, filter-filter}
-use Rattle.rcp_model.specs.Decision.{Contender, unbeaten, has_higher_preference, has_shorter_path, has_lower_origin, has_lower_exit, tied, goes_before, is_of, is_nearer, nearest, choice, IsNearest}
+use Rattle.rcp_model.specs.Decision.{Contender, unbeaten, has_higher_preference, has_shorter_path, has_lower_origin, has_lower_exit, tied, goes_before, is_of, is_lower_pair, is_nearer, nearest, choice, IsNearest}
 
 -- ---- what a filter leaves
 
@@ -148,54 +150,67 @@ tied-nil = refl
 
 -- ---- the nearest
 
--- lower in the first number, or in the second where the first are equal
-abbrev lower_pair : ℕ → ℕ → ℕ → ℕ → Bool
-lower_pair m k n l = nat_lt m n || m == n && nat_lt k l
+module _ (m k n l : ℕ) where
+  lower_pair-itself : is_lower_pair (Some m) k (Some m) k ≡ false
+  lower_pair-itself = grind (arith, nat_tests)
 
-lower_pair-itself : (m k : ℕ) → lower_pair m k m k ≡ false
-lower_pair-itself m k = grind (arith, nat_tests)
+  lower_pair-chain : (o p : ℕ) → is_lower_pair (Some m) k (Some n) l ≡ true → is_lower_pair (Some n) l (Some o) p ≡ true → is_lower_pair (Some m) k (Some o) p ≡ true
+  lower_pair-chain o p h i = grind (arith, nat_tests)
 
-lower_pair-chain : (m k n l o p : ℕ) → lower_pair m k n l ≡ true → lower_pair n l o p ≡ true → lower_pair m k o p ≡ true
-lower_pair-chain m k n l o p h i = grind (arith, nat_tests)
+  lower_pair-between : (o p : ℕ) → is_lower_pair (Some m) k (Some n) l ≡ true → (is_lower_pair (Some m) k (Some o) p ≡ true) ⊎ (is_lower_pair (Some o) p (Some n) l ≡ true)
+  lower_pair-between o p h = grind (arith, nat_tests)
 
-lower_pair-tie : (m k n l : ℕ) → lower_pair m k n l ≡ false → lower_pair n l m k ≡ false → k ≡ l
-lower_pair-tie m k n l h i = grind (arith, nat_tests)
+  lower_pair-tie : is_lower_pair (Some m) k (Some n) l ≡ false → is_lower_pair (Some n) l (Some m) k ≡ false → k ≡ l
+  lower_pair-tie h i = grind (arith, nat_tests)
 
--- `is_nearer` of two costs and identifiers
-abbrev nearer_at : Option ℕ → ℕ → Option ℕ → ℕ → Bool
-nearer_at None k b l = false
-nearer_at (Some m) k None l = true
-nearer_at (Some m) k (Some n) l = lower_pair m k n l
+nearer-itself : (p : Option ℕ) (k : ℕ) → is_lower_pair p k p k ≡ false
+nearer-itself None k = refl
+nearer-itself (Some m) k = lower_pair-itself m k m k
 
-nearer_is : (cost : ℕ → Option ℕ) (b a : Contender) → is_nearer cost b a ≡ nearer_at (cost b.slot) b.id (cost a.slot) a.id
-nearer_is cost b a = at_costs (cost b.slot) (cost a.slot) where
-  at_costs : (p q : Option ℕ) → elim p [ None ↦ false | Some m ↦ elim q [ None ↦ true | Some n ↦ nat_lt m n || m == n && nat_lt b.id a.id ] ] ≡ nearer_at p b.id q a.id
-  at_costs None q = refl
-  at_costs (Some m) None = refl
-  at_costs (Some m) (Some n) = refl
+nearer-chain : (p q r : Option ℕ) (k l n : ℕ) → is_lower_pair p k q l ≡ true → is_lower_pair q l r n ≡ true → is_lower_pair p k r n ≡ true
+nearer-chain None q r k l n h i = absurd (false≢true h)
+nearer-chain (Some m) None r k l n h i = absurd (false≢true i)
+nearer-chain (Some m) (Some o) None k l n h i = refl
+nearer-chain (Some m) (Some o) (Some p) k l n h i = lower_pair-chain m k o l p n h i
 
-nearer_at-itself : (p : Option ℕ) (k : ℕ) → nearer_at p k p k ≡ false
-nearer_at-itself None k = refl
-nearer_at-itself (Some m) k = lower_pair-itself m k
+-- of three each lies below one of the others where those do
+pub nearer-between : (p q r : Option ℕ) (k l n : ℕ) → is_lower_pair p k q l ≡ true → (is_lower_pair p k r n ≡ true) ⊎ (is_lower_pair r n q l ≡ true)
+nearer-between None q r k l n h = absurd (false≢true h)
+nearer-between (Some m) q None k l n h = inl refl
+nearer-between (Some m) None (Some p) k l n h = inr refl
+nearer-between (Some m) (Some o) (Some p) k l n h = lower_pair-between m k o l p n h
 
-nearer_at-chain : (p q r : Option ℕ) (k l n : ℕ) → nearer_at p k q l ≡ true → nearer_at q l r n ≡ true → nearer_at p k r n ≡ true
-nearer_at-chain None q r k l n h i = absurd (false≢true h)
-nearer_at-chain (Some m) None r k l n h i = absurd (false≢true i)
-nearer_at-chain (Some m) (Some o) None k l n h i = refl
-nearer_at-chain (Some m) (Some o) (Some p) k l n h i = lower_pair-chain m k o l p n h i
+-- routes that are reached are as near as each other only with one identifier
+nearer-tie : (p q : Option ℕ) (k l : ℕ) → IsSome p → IsSome q → is_lower_pair p k q l ≡ false → is_lower_pair q l p k ≡ false → k ≡ l
+nearer-tie None q k l h i f g = absurd (false≢true h)
+nearer-tie (Some m) None k l h i f g = absurd (false≢true i)
+nearer-tie (Some m) (Some n) k l h i f g = lower_pair-tie m k n l f g
 
 nearer_order : (cost : ℕ → Option ℕ) → IsStrictOrder (is_nearer cost)
 nearer_order cost = record {
-  never_itself = λ a. nearer_is cost a a ∙ nearer_at-itself (cost a.slot) a.id;
-  chain = λ a b c h k. nearer_is cost a c ∙ nearer_at-chain (cost a.slot) (cost b.slot) (cost c.slot) a.id b.id c.id (sym (nearer_is cost a b) ∙ h) (sym (nearer_is cost b c) ∙ k);
+  never_itself = λ a. nearer-itself (cost a.slot) a.id;
+  chain = λ a b c h k. nearer-chain (cost a.slot) (cost b.slot) (cost c.slot) a.id b.id c.id h k;
 }
 
--- the answer is the slot of a route than which none is nearer
-nearest_is : (cost : ℕ → Option ℕ) (list : List Contender) → list ≢ [] → (a : Contender) × (nearest cost list ≡ Some a.slot) × IsNearest cost list a
-nearest_is cost [] filled = absurd (filled refl)
-nearest_is cost (a ∷ list) filled = at_test (list_any (λ b. is_nearer cost b a) list) refl (nearest_is cost list) where
-  at_test : (t : Bool) → list_any (λ b. is_nearer cost b a) list ≡ t → (list ≢ [] → (m : Contender) × (nearest cost list ≡ Some m.slot) × IsNearest cost list m)
-      → (m : Contender) × (cond t (nearest cost list) (Some a.slot) ≡ Some m.slot) × IsNearest cost (a ∷ list) m
+-- the nearest as a contender
+abbrev pub front : (ℕ → Option ℕ) → List Contender → Option Contender
+front cost [] = None
+front cost (a ∷ list) = if list_any (λ b. is_nearer cost b a) list then front cost list else Some a
+
+pub nearest-front : (cost : ℕ → Option ℕ) (list : List Contender) → nearest cost list ≡ option_map (λ (a : Contender). a.slot) (front cost list)
+nearest-front cost [] = refl
+nearest-front cost (a ∷ list) = at_test (list_any (λ b. is_nearer cost b a) list) (nearest-front cost list) where
+  at_test : (t : Bool) → nearest cost list ≡ option_map (λ (a : Contender). a.slot) (front cost list)
+      → cond t (nearest cost list) (Some a.slot) ≡ option_map (λ (a : Contender). a.slot) (cond t (front cost list) (Some a))
+  at_test true rest = rest
+  at_test false rest = refl
+
+-- none of the list is nearer than the front
+pub front_is : (cost : ℕ → Option ℕ) (list : List Contender) → list ≢ [] → (a : Contender) × (front cost list ≡ Some a) × IsNearest cost list a
+front_is cost [] filled = absurd (filled refl)
+front_is cost (a ∷ list) filled = at_test (list_any (λ b. is_nearer cost b a) list) refl (front_is cost list) where
+  at_test : (t : Bool) → list_any (λ b. is_nearer cost b a) list ≡ t → (list ≢ [] → (m : Contender) × (front cost list ≡ Some m) × IsNearest cost list m)
+      → (m : Contender) × (cond t (front cost list) (Some a) ≡ Some m) × IsNearest cost (a ∷ list) m
   at_test true any rest =
       let by = any_member (λ b. is_nearer cost b a) list any in
       let best = rest (Contains-filled list by.0 by.1) in (
@@ -223,6 +238,40 @@ nearest_is cost (a ∷ list) filled = at_test (list_any (λ b. is_nearer cost b 
       ];
     },
   )
+
+front_member : (cost : ℕ → Option ℕ) (list : List Contender) (m : Contender) → front cost list ≡ Some m → Contains list m
+front_member cost [] m found = absurd (none_some found) where
+  none_some : None ≡ Some m → ⊥
+  none_some e = cc
+front_member cost (a ∷ list) m found = at_test (list_any (λ b. is_nearer cost b a) list) (front_member cost list m) found where
+  at_test : (t : Bool) → (front cost list ≡ Some m → Contains list m) → cond t (front cost list) (Some a) ≡ Some m → Contains (a ∷ list) m
+  at_test true rest found = Contains-tail a list m (rest found)
+  at_test false rest found = let same : a ≡ m = cc in subst (λ b. Contains (a ∷ list) b) same (Contains-head a list)
+
+nearest_is : (cost : ℕ → Option ℕ) (list : List Contender) → list ≢ [] → (a : Contender) × (nearest cost list ≡ Some a.slot) × IsNearest cost list a
+nearest_is cost list filled = let best = front_is cost list filled in (best.0, nearest-front cost list ∙ ap (option_map (λ (a : Contender). a.slot)) best.1, best.2)
+
+-- with one contender more at the end: that one where it is nearer
+abbrev pub nearer_of : (ℕ → Option ℕ) → Option Contender → Contender → Contender
+nearer_of cost None a = a
+nearer_of cost (Some best) a = if is_nearer cost a best then a else best
+
+pub front-push : (cost : ℕ → Option ℕ) (list : List Contender) (y : Contender) → front cost (list ++ y ∷ []) ≡ Some (nearer_of cost (front cost list) y)
+front-push cost [] y = refl
+front-push cost (x ∷ list) y =
+    rw (list_any-append (λ b. is_nearer cost b x) list (y ∷ []), or-false (is_nearer cost y x))
+    (at_tests (list_any (λ b. is_nearer cost b x) list) (is_nearer cost y x) refl refl (front-push cost list y)) where
+      at_tests : (any last : Bool) → list_any (λ b. is_nearer cost b x) list ≡ any → is_nearer cost y x ≡ last → front cost (list ++ y ∷ []) ≡ Some (nearer_of cost (front cost list) y)
+          → cond (any || last) (front cost (list ++ y ∷ [])) (Some x) ≡ Some (nearer_of cost (cond any (front cost list) (Some x)) y)
+      at_tests true last some is rest = rest
+      at_tests false true none is rest = rest ∙ ap Some (over (front cost list) (λ m found. elim (nearer-between (cost y.slot) (cost x.slot) (cost m.slot) y.id x.id m.id is) [
+        | inl beats ↦ beats
+        | inr beats ↦ absurd (false≢true (sym (none_at_member (λ b. is_nearer cost b x) list m none (front_member cost list m found)) ∙ beats))
+      ])) where
+        over : (o : Option Contender) → ((m : Contender) → o ≡ Some m → is_nearer cost y m ≡ true) → nearer_of cost o y ≡ cond (is_nearer cost y x) y x
+        over None beats = rw is refl
+        over (Some m) beats = rw (is, beats m refl) refl
+      at_tests false false none is rest = rw is refl
 
 -- ---- the choice
 
@@ -268,11 +317,6 @@ choice_none slot cost list = (of_list list, λ empty. ap (choice slot cost) empt
       absurd (some_none (sym found.2 ∙ none))
 
 -- of routes with distinct identifiers, all reached, one is nearest
-nearer_at-tie : (p q : Option ℕ) (k l : ℕ) → IsSome p → IsSome q → nearer_at p k q l ≡ false → nearer_at q l p k ≡ false → k ≡ l
-nearer_at-tie None q k l h i f g = absurd (false≢true h)
-nearer_at-tie (Some m) None k l h i f g = absurd (false≢true i)
-nearer_at-tie (Some m) (Some n) k l h i f g = lower_pair-tie m k n l f g
-
 pub choice_is_nearest : (slot : ℕ) (cost : ℕ → Option ℕ) (list : List Contender) (a : Contender)
     → ((b c : Contender) → Contains list b → Contains list c → b.id ≡ c.id → b.slot ≡ c.slot)
     → ((b : Contender) → Contains list b → IsSome (cost b.slot))
@@ -283,6 +327,5 @@ choice_is_nearest slot cost list a one reached others best =
     let found = choice_other slot cost list others (Contains-filled list a listed) in
     let found_listed = (member_of_tied list found.0 found.2.among).0 in
     let same_id : found.0.id ≡ a.id =
-    nearer_at-tie (cost found.0.slot) (cost a.slot) found.0.id a.id (reached found.0 found_listed) (reached a listed)
-    (sym (nearer_is cost found.0 a) ∙ best.least found.0 found.2.among) (sym (nearer_is cost a found.0) ∙ found.2.least a best.among) in
+    nearer-tie (cost found.0.slot) (cost a.slot) found.0.id a.id (reached found.0 found_listed) (reached a listed) (best.least found.0 found.2.among) (found.2.least a best.among) in
     found.1 ∙ ap Some (one found.0 a found_listed listed same_id)

@@ -44,15 +44,15 @@ tied list = unbeaten has_lower_exit (unbeaten has_lower_origin (unbeaten has_sho
 abbrev pub is_of : ℕ → Contender → Bool
 is_of slot a = a.slot == slot
 
+-- the lower cost, then the lower identifier; a cost is lower than none
+abbrev pub is_lower_pair : Option ℕ → ℕ → Option ℕ → ℕ → Bool
+is_lower_pair None id other other_id = false
+is_lower_pair (Some m) id None other_id = true
+is_lower_pair (Some m) id (Some n) other_id = nat_lt m n || m == n && nat_lt id other_id
+
 -- the lower interior cost (section 9.1.2.2 e), then the lower BGP Identifier (f)
 abbrev pub is_nearer : (ℕ → Option ℕ) → Contender → Contender → Bool
-is_nearer cost b a = elim (cost b.slot) [
-  | None ↦ false
-  | Some m ↦ elim (cost a.slot) [
-      | None ↦ true
-      | Some n ↦ nat_lt m n || m == n && nat_lt b.id a.id
-    ]
-]
+is_nearer cost b a = is_lower_pair (cost b.slot) b.id (cost a.slot) a.id
 
 -- the slot of the one than which none is nearer
 abbrev pub nearest : (ℕ → Option ℕ) → List Contender → Option ℕ
