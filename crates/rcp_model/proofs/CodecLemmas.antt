@@ -12,13 +12,16 @@ use Rattle.rcp_model.specs.Maps.{get_at, put_at, same_prefix, is_among}
 use Rattle.rcp_model.specs.Messages.{FaultOf, IsMessage, messages_in}
 use Rattle.rcp_model.specs.Attributes.{attributes_in, attributes_fault, canonical_octets, or_else}
 use Rattle.rcp_model.specs.Updates.{Table, Sections, section, after_section, has_section, sections_of, prefixes_in, update_octets, update_fault, changes_of, after_message}
-use Rattle.rcp_model.specs.Meaning.{cell_update, is_faultless_update}
+use Rattle.rcp_model.specs.Feed.{FeedRecord, RosterOf}
+use Rattle.rcp_model.specs.Meaning.{cell_update, is_faultless_update, Headline}
 use Rattle.rcp_model.proofs.MapLemmas.{get_at-put_at_same, get_at-put_at_other, get_at-without_passed, get_at-without_left, prefix_test, same_prefix-is, same_prefix-other}
 use Rattle.rcp_model.proofs.SectionLemmas.{prefixes_in-in_form}
 use Rattle.rcp_model.proofs.ReadingLemmas.{messages_in-concat}
 use Rattle.rcp_model.proofs.UpdateLemmas.{length-update_octets, IsMessage-update_octets, after_message-update_octets}
 use Rattle.rcp_model.proofs.RunLemmas.{CellUpdates}
-use Rattle.rcp_model.proofs.MeaningLemmas.{ReadsUpdates}
+use Rattle.rcp_model.proofs.AttributeLemmas.{IsShort-attributes_in}
+use Rattle.rcp_model.proofs.CanonicalLemmas.{canonical_octets_again}
+use Rattle.rcp_model.proofs.MeaningLemmas.{ReadsUpdates, headline-holds}
 
 -- ---- one cell is written
 
@@ -89,41 +92,42 @@ filter-form test (p ∷ ps) h =
       | inr e ↦ rw e (filter-form test ps h.1)
     ]
 
-none_first : (first second : Option FaultOf) → or_else first second ≡ None → first ≡ None
-none_first None second h = refl
-none_first (Some f) second h = absurd cc
-
 is_none-is : (o : Option FaultOf) → is_none o ≡ true → o ≡ None
 is_none-is None e = refl
 is_none-is (Some f) e = absurd cc
 
-module _ (again : (octets : List ℕ) (nlri : Bool) → All (λ o. o < 256) octets → attributes_fault w16 nlri octets ≡ None
-    → canonical_octets (attributes_in (canonical_octets (attributes_in octets))) ≡ canonical_octets (attributes_in octets)) where
-  by_sections : (body : List ℕ) (found : Option Sections) → All (λ o. o < 256) body → sections_of body ≡ found → update_fault w16 body ≡ None
-    → AllByRecursion IsPrefix (changes_of body).withdrawn × AllByRecursion IsPrefix (changes_of body).announced
-      × (canonical_octets (attributes_in (canonical_octets (changes_of body).attributes)) ≡ canonical_octets (changes_of body).attributes)
-  unfolding changes_of update_fault
-  by_sections body None all is faultless = absurd (some_none (rw (is, update_fault) at faultless)) where
-    some_none : {f : FaultOf} → Some f ≡ None → ⊥
-    some_none e = cc
-  by_sections body (Some sections) all is faultless =
-      let octets = sections-octets body sections all is in
-      let attributes : attributes_fault w16 (not (eqb (length sections.nlri) 0)) sections.attributes ≡ None = none_first _ _ (rw (is, update_fault) at faultless) in
-      rw (is, changes_of) (
-        filter-form (λ p. not (is_among (prefixes_in sections.nlri) p)) (prefixes_in sections.withdrawn) (prefixes_in-in_form sections.withdrawn octets.withdrawn),
-        prefixes_in-in_form sections.nlri octets.nlri,
-        again sections.attributes (not (eqb (length sections.nlri) 0)) octets.attributes attributes)
+again : (octets : List ℕ) → All (λ o. o < 256) octets → canonical_octets (attributes_in (canonical_octets (attributes_in octets))) ≡ canonical_octets (attributes_in octets)
+again octets all = canonical_octets_again (attributes_in octets) (IsShort-attributes_in octets all)
 
-  whole : (octets : List ℕ) → All (λ o. o < 256) octets → is_faultless_update octets ≡ true
-    → AllByRecursion IsPrefix (changes_of (drop 19 octets)).withdrawn × AllByRecursion IsPrefix (changes_of (drop 19 octets)).announced
-      × (canonical_octets (attributes_in (canonical_octets (changes_of (drop 19 octets)).attributes)) ≡ canonical_octets (changes_of (drop 19 octets)).attributes)
-  whole octets all faultless =
-      by_sections (drop 19 octets) (sections_of (drop 19 octets)) (All-drop (λ o. o < 256) 19 octets all) refl
-        (is_none-is (update_fault w16 (drop 19 octets)) (and_parts _ _ faultless).1)
+by_sections : (body : List ℕ) (found : Option Sections) → All (λ o. o < 256) body → sections_of body ≡ found → update_fault w16 body ≡ None
+  → AllByRecursion IsPrefix (changes_of body).withdrawn × AllByRecursion IsPrefix (changes_of body).announced
+    × (canonical_octets (attributes_in (canonical_octets (changes_of body).attributes)) ≡ canonical_octets (changes_of body).attributes)
+unfolding changes_of update_fault
+by_sections body None all is faultless = absurd (some_none (rw (is, update_fault) at faultless)) where
+  some_none : {f : FaultOf} → Some f ≡ None → ⊥
+  some_none e = cc
+by_sections body (Some sections) all is faultless =
+    let octets = sections-octets body sections all is in
+    rw (is, changes_of) (
+      filter-form (λ p. not (is_among (prefixes_in sections.nlri) p)) (prefixes_in sections.withdrawn) (prefixes_in-in_form sections.withdrawn octets.withdrawn),
+      prefixes_in-in_form sections.nlri octets.nlri,
+      again sections.attributes octets.attributes)
 
-  pub reads_updates : ReadsUpdates
-  reads_updates = record {
-    withdrawn = λ octets all faultless. (whole octets all faultless).0;
-    announced = λ octets all faultless. (whole octets all faultless).1;
-    attributes = λ octets all faultless. (whole octets all faultless).2;
-  }
+whole : (octets : List ℕ) → All (λ o. o < 256) octets → is_faultless_update octets ≡ true
+  → AllByRecursion IsPrefix (changes_of (drop 19 octets)).withdrawn × AllByRecursion IsPrefix (changes_of (drop 19 octets)).announced
+    × (canonical_octets (attributes_in (canonical_octets (changes_of (drop 19 octets)).attributes)) ≡ canonical_octets (changes_of (drop 19 octets)).attributes)
+whole octets all faultless =
+    by_sections (drop 19 octets) (sections_of (drop 19 octets)) (All-drop (λ o. o < 256) 19 octets all) refl
+      (is_none-is (update_fault w16 (drop 19 octets)) (and_parts _ _ faultless).1)
+
+pub reads_updates : ReadsUpdates
+reads_updates = record {
+  withdrawn = λ octets all faultless. (whole octets all faultless).0;
+  announced = λ octets all faultless. (whole octets all faultless).1;
+  attributes = λ octets all faultless. (whole octets all faultless).2;
+}
+
+-- ---- the headline
+
+pub headline : (roster : RosterOf) (items : List FeedRecord) → AllByRecursion (λ item. All (λ o. o < 256) item.body) items → Headline roster items
+headline roster items small = headline-holds cell_updates reads_updates roster items small

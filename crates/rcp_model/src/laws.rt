@@ -4,5 +4,6 @@ pub mod canonical_form;
 pub mod reading;
 pub mod candidates;
 pub mod filters;
+pub mod offers;
 pub mod readings;
 pub mod walks;
