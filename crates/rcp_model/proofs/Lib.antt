@@ -18,3 +18,4 @@ pub mod FilterLemmas
 pub mod MemberLemmas
 pub mod WalkLemmas
 pub mod CodecLemmas
+pub mod RecordLemmas

@@ -2,13 +2,12 @@
 use Rattle.std.specs.Prelude.{◌≡◌, ℕ, ◌+◌, ◌^◌, Bool, true, false, not, ◌&&◌, ◌||◌, ◌==◌, List, [], ◌∷◌, ◌++◌, length, take, drop, map, Option, Some, None, is_some, nat_lt, nat_le, if◌then◌else◌, bytes_eq}
 use Rattle.std.specs.List.{list_all, flat_map}
 use Rattle.std.specs.Int.{w16, w32, from_be_bytes}
-use Rattle.rcp_base.specs.IpPrefix.{IpPrefix}
 use Rattle.rcp_model.specs.Attributes.{Attribute, Segment, ORIGIN, AS_PATH, NEXT_HOP, LOCAL_PREF, AS_SEQUENCE, attributes_in}
 use Rattle.rcp_model.specs.Routes.{path_of}
-use Rattle.rcp_model.specs.Updates.{Sections, sections_of, replay}
-use Rattle.rcp_model.specs.Control.{is_connected, is_touched, offer}
-use Rattle.rcp_model.specs.Feed.{FeedRecord, RosterOf, ROSTER, READY, OCTETS, DRAIN, FINISH, records_in, record_octets, roster_of}
-use Rattle.rcp_model.specs.Meaning.{Connection, Platform, fresh, domain_of, slot_from, slot_on, is_new_number, is_faultless_update, OutRecord, out_octets, cell_of, step, output, platform_after, all_output}
+use Rattle.rcp_model.specs.Updates.{Sections, sections_of}
+use Rattle.rcp_model.specs.Control.{is_connected}
+use Rattle.rcp_model.specs.Feed.{FeedRecord, RosterOf, ROSTER, READY, OCTETS, DRAIN, FINISH, records_in, roster_of}
+use Rattle.rcp_model.specs.Meaning.{Platform, fresh, slot_from, slot_on, is_new_number, is_faultless_update, out_octets, step, all_output, Headline}
 
 -- ---- records of the form
 
@@ -38,19 +37,29 @@ abbrev pub may_be_seated : Platform → ℕ → Option ℕ → Bool
 may_be_seated platform number None = false
 may_be_seated platform number (Some slot) = is_new_number platform.connections number && not (is_connected platform.server slot)
 
+-- whether the kind, the source and the length may be those of a record of the form
+unfoldable pub is_plausible : FeedRecord → Bool
+is_plausible item =
+    if item.kind == ROSTER then item.source == 0 && nat_le (length item.body) 65536 else (
+    if item.kind == READY then nat_lt 0 item.source && length item.body == 4 else (
+    if item.kind == OCTETS then nat_lt 0 item.source && nat_le (length item.body) 65536 else (
+    if item.kind == DRAIN then item.source == 0 && length item.body == 0 else
+    item.kind == FINISH && item.source == 0 && length item.body == 0)))
+
 -- whether a record behind the first and before the last is of the form
 unfoldable pub has_form : Platform → FeedRecord → Bool
 has_form platform item =
-    if item.kind == READY then length item.body == 4 && may_be_seated platform item.source (slot_from 0 platform.roster.members (from_be_bytes w32 item.body)) else (
+    is_plausible item && (
+    if item.kind == READY then may_be_seated platform item.source (slot_from 0 platform.roster.members (from_be_bytes w32 item.body)) else (
     if item.kind == OCTETS then is_some (slot_on platform.connections item.source) && is_plain_update item.body else
-    item.kind == DRAIN && item.source == 0 && length item.body == 0)
+    item.kind == DRAIN))
 
 abbrev pub is_end : FeedRecord → Bool
-is_end item = item.kind == FINISH && item.source == 0 && length item.body == 0
+is_end item = is_plausible item && item.kind == FINISH
 
 -- the roster of a first record of the form
 abbrev pub first_roster : FeedRecord → Option RosterOf
-first_roster item = if item.kind == ROSTER && item.source == 0 && nat_le (length item.body) 65536 then roster_of item.body else None
+first_roster item = if is_plausible item && item.kind == ROSTER then roster_of item.body else None
 
 -- ---- how a feed ends
 
@@ -127,25 +136,9 @@ whole_output feed = output_octets feed.roster feed.items
 
 -- ---- the headline over octets that were really written
 
--- the octets sent to a connection within octets that were put out: the bodies of the records for it
-abbrev pub bodies_to : ℕ → List FeedRecord → List ℕ
-bodies_to number [] = []
-bodies_to number (item ∷ items) = if item.kind == OCTETS && item.source == number then item.body ++ bodies_to number items else bodies_to number items
-
-abbrev pub sent_within : ℕ → List ℕ → List ℕ
-sent_within number octets = bodies_to number (records_in octets)
-
--- For each of the records of a feed whose output is whole within the octets that were written: each connected router, at each prefix that
--- isn't touched, was sent octets that replay to exactly what it is offered.
-abbrev pub HeadlineWritten : RosterOf → List FeedRecord → List ℕ → Type 0
-HeadlineWritten roster items written =
-    (i : ℕ) (more : List ℕ) →
-    let done = take i items in
-    let outs = flat_map out_octets (all_output (fresh roster) done) in
-    let platform = platform_after (fresh roster) done in
-    written ≡ outs ++ more →
-    (number slot : ℕ) (p : IpPrefix) → slot_on platform.connections number ≡ Some slot → is_touched platform.server p ≡ false
-    → cell_of (Some (replay (sent_within number outs))) p ≡ offer (domain_of roster) platform.server.announcements platform.server.edges slot p
-
-abbrev pub FeedHeadline : FeedMeaning → List ℕ → Type 0
-FeedHeadline feed written = (roster : RosterOf) → feed.roster ≡ Some roster → HeadlineWritten roster feed.items written
+-- For the first records of a feed whose output is whole within the octets that were written, the headline holds.
+abbrev pub HeadlineWritten : FeedMeaning → List ℕ → Type 0
+HeadlineWritten feed written =
+    (roster : RosterOf) (count : ℕ) (more : List ℕ) → feed.roster ≡ Some roster
+    → written ≡ flat_map out_octets (all_output (fresh roster) (take count feed.items)) ++ more
+    → Headline roster (take count feed.items)

@@ -1,0 +1,100 @@
+-- Records of a feed are read as they are spelled, one after another; and what isn't plausible is of no form.
+use Rattle.std.proofs.Common.{◌≡◌, ℕ, suc, ◌+◌, ◌-◌, ◌*◌, ◌^◌, ◌<◌, ◌≤◌, Bool, true, false, cond, not, ◌&&◌, ◌||◌, eqb, ltb, leb, List, [], ◌∷◌, ◌++◌, length, map, take, drop, get_or, Option, Some, None, refl, sym, ap, subst, ◌∙◌, ◌⊎◌, inl, inr, arith, append_assoc}
+use Rattle.std.specs.Int.{w16, w32, to_be_bytes, from_be_bytes}
+use Rattle.std.proofs.lemmas.Bool.{cases_Bool, and_parts, and_from, eqb-true, eq-eqb, le-leb, lt-leb, leb-true, ltb-true, both_ways}
+use Rattle.std.proofs.lemmas.List.{append-nil, take_at, drop_at, length-append, length-drop}
+use Rattle.std.proofs.lemmas.Nat.{from_be_bytes-to_be_bytes_4}
+use Rattle.rcp_model.specs.Cut.{cut}
+use Rattle.rcp_model.specs.Feed.{FeedRecord, ROSTER, READY, OCTETS, DRAIN, FINISH, body_length, record_size, record_of, records_in, record_octets, RosterOf}
+use Rattle.rcp_model.specs.Meaning.{Platform, step}
+use Rattle.rcp_model.specs.Plain.{is_plausible, has_form, is_end, first_roster, Finished, TooLong, BadBody, most_octets, record_length, ending, formed}
+use Rattle.rcp_model.proofs.CutLemmas.{cut-append, cut-stop}
+
+-- a record whose source and length fit their fields
+pub record FitsFrame (item : FeedRecord) : Type 0 where
+  pub source : item.source < 2 ^ 32
+  pub body : length item.body < 2 ^ 32
+
+spelled : (item : FeedRecord) (more : List ℕ) → record_octets item ++ more ≡ item.kind ∷ (to_be_bytes w32 item.source ++ (to_be_bytes w32 (length item.body) ++ (item.body ++ more)))
+spelled item more = simp append_assoc
+
+body_length-is : (item : FeedRecord) (more : List ℕ) → FitsFrame item → body_length (record_octets item ++ more) ≡ length item.body
+body_length-is item more fits = from_be_bytes-to_be_bytes_4 (length item.body) fits.body
+
+length-record : (item : FeedRecord) → length (record_octets item) ≡ 9 + length item.body
+length-record item = omega (arith, length-append (to_be_bytes w32 item.source ++ to_be_bytes w32 (length item.body)) item.body)
+
+pub record_size-front : (item : FeedRecord) (more : List ℕ) → FitsFrame item → record_size (record_octets item ++ more) ≡ Some (length (record_octets item))
+unfolding record_size
+record_size-front item more fits =
+    let all : length (record_octets item ++ more) ≡ 9 + length item.body + length more = omega (arith, length-append (record_octets item) more, length-record item) in
+    let nine : leb 9 (length (record_octets item ++ more)) ≡ true = le-leb 9 _ (omega arith) in
+    let whole : leb (9 + body_length (record_octets item ++ more)) (length (record_octets item ++ more)) ≡ true = le-leb _ _ (omega (arith, body_length-is item more fits)) in
+    rw (nine, whole) (ap Some (ap (λ (n : ℕ). 9 + n) (body_length-is item more fits) ∙ sym (length-record item)))
+
+pub record_of-spelled : (item : FeedRecord) → FitsFrame item → record_of (record_octets item) ≡ item
+record_of-spelled item fits =
+    ap (λ (s : ℕ). let r : FeedRecord = record { kind = item.kind; source = s; body = item.body } in r) (from_be_bytes-to_be_bytes_4 item.source fits.source)
+
+-- a record in front is read first, and then what follows it
+pub records_in-front : (item : FeedRecord) (more : List ℕ) → FitsFrame item → records_in (record_octets item ++ more) ≡ item ∷ records_in more
+records_in-front item more fits =
+    let front = cut-append record_size (record_octets item) more (record_size-front item more fits) (omega (arith, length-record item)) in
+    ap (λ (r : List (List ℕ) × List ℕ). map record_of r.0) front ∙ ap (λ (r : FeedRecord). r ∷ records_in more) (record_of-spelled item fits)
+
+-- where no whole record stands in front, there is none
+pub records_in-none : (octets : List ℕ) → record_size octets ≡ None → records_in octets ≡ []
+records_in-none octets none = ap (λ (r : List (List ℕ) × List ℕ). map record_of r.0) (cut-stop record_size octets none)
+
+-- ---- what isn't plausible is of no form
+
+pub implausible-form : (platform : Platform) (item : FeedRecord) → is_plausible item ≡ false → has_form platform item ≡ false
+unfolding has_form
+implausible-form platform item h = rw h refl
+
+pub implausible-end : (item : FeedRecord) → is_plausible item ≡ false → is_end item ≡ false
+implausible-end item h = rw h refl
+
+pub implausible-roster : (item : FeedRecord) → is_plausible item ≡ false → first_roster item ≡ None
+implausible-roster item h = rw h refl
+
+-- ---- how records end
+
+pub ending-none : (platform : Platform) (number before : ℕ) → before < 2 ^ 40 → ending platform number before [] ≡ BadBody number
+unfolding ending
+ending-none platform number before few = rw (lt-leb most_octets before few) refl
+
+pub ending-long : (platform : Platform) (number before : ℕ) (items : List FeedRecord) → 2 ^ 40 ≤ before → ending platform number before items ≡ TooLong number
+unfolding ending
+ending-long platform number before [] many = rw (le-leb most_octets before many) refl
+ending-long platform number before (item ∷ items) many = rw (le-leb most_octets before many) refl
+
+pub formed-long : (platform : Platform) (before : ℕ) (items : List FeedRecord) → 2 ^ 40 ≤ before → formed platform before items ≡ []
+unfolding formed
+formed-long platform before [] many = refl
+formed-long platform before (item ∷ items) many = rw (le-leb most_octets before many) refl
+
+module _ (platform : Platform) (number before : ℕ) (item : FeedRecord) (items : List FeedRecord) (few : before < 2 ^ 40) where
+  pub ending-finish : is_end item ≡ true → ending platform number before (item ∷ items) ≡ Finished
+  unfolding ending
+  ending-finish e = rw (lt-leb most_octets before few, e) refl
+
+  pub formed-finish : is_end item ≡ true → formed platform before (item ∷ items) ≡ []
+  unfolding formed
+  formed-finish e = rw (lt-leb most_octets before few, e) refl
+
+  pub ending-refused : is_end item ≡ false → has_form platform item ≡ false → ending platform number before (item ∷ items) ≡ BadBody number
+  unfolding ending
+  ending-refused e f = rw (lt-leb most_octets before few, e, f) refl
+
+  pub formed-refused : is_end item ≡ false → has_form platform item ≡ false → formed platform before (item ∷ items) ≡ []
+  unfolding formed
+  formed-refused e f = rw (lt-leb most_octets before few, e, f) refl
+
+  pub ending-more : is_end item ≡ false → has_form platform item ≡ true → ending platform number before (item ∷ items) ≡ ending (step platform item) (number + 1) (before + record_length item) items
+  unfolding ending
+  ending-more e f = rw (lt-leb most_octets before few, e, f) refl
+
+  pub formed-more : is_end item ≡ false → has_form platform item ≡ true → formed platform before (item ∷ items) ≡ item ∷ formed (step platform item) (before + record_length item) items
+  unfolding formed
+  formed-more e f = rw (lt-leb most_octets before few, e, f) refl
