@@ -1,14 +1,14 @@
 -- Records of a feed are read as they are spelled, one after another; and what isn't plausible is of no form.
-use Rattle.std.proofs.Common.{◌≡◌, ℕ, suc, ◌+◌, ◌-◌, ◌*◌, ◌^◌, ◌<◌, ◌≤◌, Bool, true, false, cond, not, ◌&&◌, ◌||◌, eqb, ltb, leb, List, [], ◌∷◌, ◌++◌, length, map, take, drop, get_or, Option, Some, None, refl, sym, ap, subst, ◌∙◌, ◌⊎◌, inl, inr, arith, append_assoc}
+use Rattle.std.proofs.Common.{◌≡◌, ℕ, zero, suc, ◌+◌, ◌-◌, ◌*◌, ◌^◌, ◌<◌, ◌≤◌, Bool, true, false, cond, not, ◌&&◌, ◌||◌, eqb, ltb, leb, List, [], ◌∷◌, ◌++◌, length, map, take, drop, get_or, Option, Some, None, refl, sym, ap, subst, ◌∙◌, ◌⊎◌, inl, inr, arith, append_assoc}
 use Rattle.std.specs.Int.{w16, w32, to_be_bytes, from_be_bytes}
-use Rattle.std.proofs.lemmas.Bool.{cases_Bool, and_parts, and_from, eqb-true, eq-eqb, le-leb, lt-leb, leb-true, ltb-true, both_ways}
-use Rattle.std.proofs.lemmas.List.{append-nil, take_at, drop_at, length-append, length-drop}
+use Rattle.std.proofs.lemmas.Bool.{cases_Bool, cases_lt, and_parts, and_from, eqb-true, eq-eqb, le-leb, lt-leb, leb-true, ltb-true, both_ways}
+use Rattle.std.proofs.lemmas.List.{append-nil, take_at, drop_at, length-append, length-drop, length-take, drop-take, get_or-take}
 use Rattle.std.proofs.lemmas.Nat.{from_be_bytes-to_be_bytes_4}
 use Rattle.rcp_model.specs.Cut.{cut}
 use Rattle.rcp_model.specs.Feed.{FeedRecord, ROSTER, READY, OCTETS, DRAIN, FINISH, body_length, record_size, record_of, records_in, record_octets, RosterOf}
 use Rattle.rcp_model.specs.Meaning.{Platform, step}
-use Rattle.rcp_model.specs.Plain.{is_plausible, has_form, is_end, first_roster, Finished, TooLong, BadBody, most_octets, record_length, ending, formed}
-use Rattle.rcp_model.proofs.CutLemmas.{cut-append, cut-stop}
+use Rattle.rcp_model.specs.Plain.{may_be, is_plausible, has_form, is_end, first_roster, Finished, TooLong, BadBody, most_octets, record_length, ending, formed}
+use Rattle.rcp_model.proofs.CutLemmas.{cut-append, cut-front, cut-stop}
 
 -- a record whose source and length fit their fields
 pub record FitsFrame (item : FeedRecord) : Type 0 where
@@ -98,3 +98,55 @@ module _ (platform : Platform) (number before : ℕ) (item : FeedRecord) (items 
   pub formed-more : is_end item ≡ false → has_form platform item ≡ true → formed platform before (item ∷ items) ≡ item ∷ formed (step platform item) (before + record_length item) items
   unfolding formed
   formed-more e f = rw (lt-leb most_octets before few, e, f) refl
+
+-- ---- no record of the form in front
+
+take-less : (k m : ℕ) (xs : List ℕ) → k ≤ m → take k (take m xs) ≡ take k xs
+take-less zero m xs le = refl
+take-less (suc k) zero xs le = absurd (omega arith)
+take-less (suc k) (suc m) [] le = refl
+take-less (suc k) (suc m) (x ∷ xs) le = ap (λ (l : List ℕ). x ∷ l) (take-less k m xs (omega arith))
+
+-- no whole record stands in front, or one that isn't plausible
+abbrev pub IsUnread : List ℕ → Type 0
+IsUnread octets = (records_in octets ≡ []) ⊎ ((item : FeedRecord) × (items : List FeedRecord) × (records_in octets ≡ item ∷ items) × (is_plausible item ≡ false))
+
+pub unread-short : (octets : List ℕ) → length octets < 9 → IsUnread octets
+unfolding record_size
+unread-short octets short = inl (records_in-none octets (rw (lt-leb 9 (length octets) short) refl))
+
+neither : (b : Bool) (n : ℕ) → cond (b && false) (Some n) None ≡ None
+neither true n = refl
+neither false n = refl
+
+record_size-cut : (octets : List ℕ) → length octets < 9 + body_length octets → record_size octets ≡ None
+unfolding record_size
+record_size-cut octets short = rw (lt-leb (9 + body_length octets) (length octets) short) (neither (leb 9 (length octets)) (9 + body_length octets))
+
+pub unread-cut : (octets : List ℕ) → length octets < 9 + body_length octets → IsUnread octets
+unread-cut octets short = inl (records_in-none octets (record_size-cut octets short))
+
+record_size-whole : (octets : List ℕ) → 9 + body_length octets ≤ length octets → record_size octets ≡ Some (9 + body_length octets)
+unfolding record_size
+record_size-whole octets whole = rw (le-leb 9 (length octets) (omega arith), le-leb (9 + body_length octets) (length octets) whole) refl
+
+pub unread-refused : (octets : List ℕ) → 9 ≤ length octets → may_be (get_or octets 0 0) (from_be_bytes w32 (take 4 (drop 1 octets))) (body_length octets) ≡ false → IsUnread octets
+unfolding is_plausible
+unread-refused octets nine refused =
+    elim (cases_lt (length octets) (9 + body_length octets)) [
+      | inl short ↦ unread-cut octets short
+      | inr whole ↦
+          let n = 9 + body_length octets in
+          let front = cut-front record_size n octets (record_size-whole octets whole) (omega arith) whole in
+          let item = record_of (take n octets) in
+          let kind : get_or (take n octets) 0 0 ≡ get_or octets 0 0 = get_or-take n octets 0 0 (omega arith) in
+          let source : take 4 (drop 1 (take n octets)) ≡ take 4 (drop 1 octets) = four n octets (omega arith) in
+          let size : length (drop 9 (take n octets)) ≡ body_length octets = omega (arith, length-drop 9 (take n octets), length-take n octets) in
+          inr (item, map record_of (cut record_size (drop n octets)).0,
+            ap (λ (r : List (List ℕ) × List ℕ). map record_of r.0) front,
+            rw (kind, source, size) refused)
+    ] where
+  four : (n : ℕ) (octets : List ℕ) → 9 ≤ n → take 4 (drop 1 (take n octets)) ≡ take 4 (drop 1 octets)
+  four n octets le =
+      let split : n ≡ 1 + (n - 1) = omega arith in
+      ap (λ (m : ℕ). take 4 (drop 1 (take m octets))) split ∙ ap (take 4) (drop-take 1 (n - 1) octets) ∙ take-less 4 (n - 1) (drop 1 octets) (omega arith)

@@ -37,14 +37,17 @@ abbrev pub may_be_seated : Platform → ℕ → Option ℕ → Bool
 may_be_seated platform number None = false
 may_be_seated platform number (Some slot) = is_new_number platform.connections number && not (is_connected platform.server slot)
 
--- whether the kind, the source and the length may be those of a record of the form
+-- whether a kind, a source and a length may be those of a record of the form
+abbrev pub may_be : ℕ → ℕ → ℕ → Bool
+may_be kind source len =
+    if kind == ROSTER then source == 0 && nat_le len 65536 else (
+    if kind == READY then nat_lt 0 source && len == 4 else (
+    if kind == OCTETS then nat_lt 0 source && nat_le len 65536 else (
+    if kind == DRAIN then source == 0 && len == 0 else
+    kind == FINISH && source == 0 && len == 0)))
+
 unfoldable pub is_plausible : FeedRecord → Bool
-is_plausible item =
-    if item.kind == ROSTER then item.source == 0 && nat_le (length item.body) 65536 else (
-    if item.kind == READY then nat_lt 0 item.source && length item.body == 4 else (
-    if item.kind == OCTETS then nat_lt 0 item.source && nat_le (length item.body) 65536 else (
-    if item.kind == DRAIN then item.source == 0 && length item.body == 0 else
-    item.kind == FINISH && item.source == 0 && length item.body == 0)))
+is_plausible item = may_be item.kind item.source (length item.body)
 
 -- whether a record behind the first and before the last is of the form
 unfoldable pub has_form : Platform → FeedRecord → Bool
