@@ -1,3 +1,6 @@
+ghost use Rattle.std.specs.Prelude.{◌≡◌};
+ghost use Rattle.rcp_model.specs.Routes.{IsRoute};
+
 use crate::octets::Octets;
 use rcp_base::Addr;
 use std::marker::Model;
@@ -28,7 +31,7 @@ pub struct Route {
 }
 
 impl Model for Route {
-    ghost use Rattle.rcp_model.specs.Routes.{RouteFields};
+    ghost use Rattle.rcp_model.specs.Routes.{RouteFields, IsRoute};
 
     ghost Value = { RouteFields };
 
@@ -43,4 +46,26 @@ impl Model for Route {
       next_hop = r.next_hop;
       attrs = r.attrs.value;
     } };
+
+    ghost invariant = { λ r. IsRoute (record {
+      pref = r.pref;
+      hops = r.hops;
+      origin = r.origin;
+      neighbour = r.neighbour;
+      med = r.med;
+      looped = r.looped;
+      long = r.long;
+      next_hop = r.next_hop;
+      attrs = r.attrs.value;
+    }) };
+}
+
+impl Route {
+    /// The octets of the path attributes as they are sent on.
+    pub fn octets(&self) -> &[u8]
+        ensures octets { result.now ≡ self.now.attrs }
+        ensures in_form { IsRoute self.now }
+    {
+        self.attrs.as_slice()
+    }
 }
