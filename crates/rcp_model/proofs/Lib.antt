@@ -7,7 +7,6 @@ pub mod UpdateLemmas
 pub mod AttributeLemmas
 pub mod CanonicalLemmas
 pub mod RouteLemmas
-mod Computed
 pub mod MapLemmas
 pub mod OfferLemmas
 pub mod ServerLemmas
@@ -19,3 +18,4 @@ pub mod MemberLemmas
 pub mod WalkLemmas
 pub mod CodecLemmas
 pub mod RecordLemmas
+pub mod Computed

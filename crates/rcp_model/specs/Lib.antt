@@ -15,3 +15,4 @@ pub mod Meaning
 pub mod Examples
 pub mod Plain
 pub mod Contests
+pub mod Cases

@@ -7,7 +7,9 @@ use std::marker::Model;
 use std::sync::Arc;
 
 /// A route to a prefix (RFC 4271 section 1.1): what the decision process reads of its path
-/// attributes, and their octets as they are sent on. Contracts see the record of the fields.
+/// attributes, and their octets as they are sent on. Each route keeps that the octets are the canonical
+/// ones of attributes with ORIGIN, AS_PATH and NEXT_HOP, and that `long` says what they are. Contracts
+/// see the record of the fields.
 #[derive(Debug, Drop)]
 pub struct Route {
     /// LOCAL_PREF (section 5.1.5), 100 where it was absent.
@@ -22,7 +24,8 @@ pub struct Route {
     pub med: u32,
     /// Whether the local AS stands in AS_PATH (section 9.1.2).
     pub looped: bool,
-    /// Whether `attrs` leave no room for a prefix in a message of 4,096 octets.
+    /// Whether `attrs` have more than 4,068 octets, and so leave no room for a prefix of more than 24 bits
+    /// in a message of 4,096 octets.
     pub long: bool,
     /// NEXT_HOP (section 5.1.3).
     pub next_hop: Addr,

@@ -1,0 +1,47 @@
+//! The definitions at work on small networks whose outcome is known: each is checked by computing it.
+
+ghost use Rattle.std.specs.Prelude.{◌≡◌, []};
+ghost use Rattle.rcp_model.specs.Edges.{edges_of};
+ghost use Rattle.rcp_model.specs.Meaning.{fresh, all_output};
+ghost use Rattle.rcp_model.specs.Examples.{A, B, link, linked, tie, tie_output};
+ghost use Rattle.rcp_model.specs.Cases.{starred, lower_exit, lower_exit_output, loop, loop_output, withdrawn_and_announced, withdrawn_and_announced_output, lone, alone, alone_output, longest, longest_output, overlong, overlong_output, lone_link_state};
+
+/// Two routers announce a prefix at equal interior costs from the third (RFC 4271 section 9.1.2.2 f): the one with the lower
+/// BGP Identifier is chosen. Both keep their own route, and are sent nothing.
+pub fn lower_identifier_breaks_a_tie()
+    ensures { all_output (fresh linked) tie ≡ tie_output }
+{}
+
+/// A route is removed by one with a lower MULTI_EXIT_DISC of the same neighbouring AS, and not by one of another (section
+/// 9.1.2.2 c).
+pub fn exit_discriminators_of_one_neighbour_are_compared()
+    ensures { all_output (fresh starred) lower_exit ≡ lower_exit_output }
+{}
+
+/// A route whose AS_PATH holds the local AS is announced, but nobody is offered it (section 9.1.2).
+pub fn looped_route_is_no_candidate()
+    ensures { all_output (fresh linked) loop ≡ loop_output }
+{}
+
+/// A prefix that stands among the withdrawn ones and in the NLRI of one UPDATE counts as announced (section 4.3).
+pub fn prefix_withdrawn_and_announced_is_announced()
+    ensures { all_output (fresh linked) withdrawn_and_announced ≡ withdrawn_and_announced_output }
+{}
+
+/// A router to which no links lead in both directions has a partition of its own, and is offered nothing of another.
+pub fn lone_router_is_offered_nothing()
+    ensures output { all_output (fresh lone) alone ≡ alone_output }
+    ensures edges { edges_of lone_link_state [] ≡ link A B 10 }
+{}
+
+/// Attributes of 4,068 octets leave room for each prefix. An unrecognised attribute is sent on with the partial flag
+/// (section 5).
+pub fn longest_route_is_sent()
+    ensures { all_output (fresh linked) longest ≡ longest_output }
+{}
+
+/// Attributes of 4,069 octets leave no room for a prefix of more than 24 bits in an UPDATE of 4,096 octets: the route is
+/// announced, but nobody is offered it.
+pub fn overlong_route_is_no_candidate()
+    ensures { all_output (fresh linked) overlong ≡ overlong_output }
+{}
