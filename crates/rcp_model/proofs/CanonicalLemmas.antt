@@ -40,7 +40,7 @@ pub record IsWritten (a : Attribute) : Type 0 where
   pub same : written a ≡ a
   pub fits : length a.value < 65536
 
-flags-plain : (a : Attribute) → IsWritten a → a.flags % 32 ≡ 0
+pub flags-plain : (a : Attribute) → IsWritten a → a.flags % 32 ≡ 0
 flags-plain a w = subst (λ (b : Attribute). b.flags % 32 ≡ 0) w.same (written_flags-plain a)
 
 category-high : (kind : ℕ) → leb 7 kind ≡ true → category kind ≡ 192
@@ -72,13 +72,13 @@ IsWritten-written a short = record { kept = kept_by (is_recognised a.kind) a ref
 
 -- ---- an attribute of more than 255 octets is read with one flag more, which changes nothing
 
-kind-read_back : (a : Attribute) → (read_back a).kind ≡ a.kind
+pub kind-read_back : (a : Attribute) → (read_back a).kind ≡ a.kind
 kind-read_back a = cond_both (leb (length a.value) 255) a (record a { flags = a.flags + 16 }) (λ (b : Attribute). b.kind ≡ a.kind) (λ _. refl) (λ _. refl)
 
-value-read_back : (a : Attribute) → (read_back a).value ≡ a.value
+pub value-read_back : (a : Attribute) → (read_back a).value ≡ a.value
 value-read_back a = cond_both (leb (length a.value) 255) a (record a { flags = a.flags + 16 }) (λ (b : Attribute). b.value ≡ a.value) (λ _. refl) (λ _. refl)
 
-kept-read_back : (a : Attribute) → IsWritten a → is_kept (read_back a) ≡ true
+pub kept-read_back : (a : Attribute) → IsWritten a → is_kept (read_back a) ≡ true
 kept-read_back a w =
     cond_both (leb (length a.value) 255) a (record a { flags = a.flags + 16 }) (λ (b : Attribute). is_kept b ≡ true) (λ _. w.kept) (λ _. is_kept-extended a (flags-plain a w) ∙ w.kept)
 
@@ -115,12 +115,12 @@ IsRising [] = Unit {0}
 IsRising (a ∷ list) = AllByRecursion (λ b. a.kind ≤ b.kind) list × IsRising list
 
 module _ (P : Attribute → Type 0) where
-  insert-All : (a : Attribute) (list : List Attribute) → P a → AllByRecursion P list → AllByRecursion P (insert_by_type a list)
+  pub insert-All : (a : Attribute) (list : List Attribute) → P a → AllByRecursion P list → AllByRecursion P (insert_by_type a list)
   insert-All a [] first each = (first, tt)
   insert-All a (b ∷ list) first each =
       cond_both (ltb b.kind a.kind) (b ∷ insert_by_type a list) (a ∷ b ∷ list) (AllByRecursion P) (λ _. (each.0, insert-All a list first each.1)) (λ _. (first, each))
 
-  by_type-All : (list : List Attribute) → AllByRecursion P list → AllByRecursion P (by_type list)
+  pub by_type-All : (list : List Attribute) → AllByRecursion P list → AllByRecursion P (by_type list)
   by_type-All [] each = tt
   by_type-All (a ∷ list) each = insert-All a (by_type list) each.0 (by_type-All list each.1)
 
@@ -198,7 +198,7 @@ has-pref list = cond_both (is_some (value_of LOCAL_PREF list)) list (default_pre
 with_pref-same : (list : List Attribute) → is_some (value_of LOCAL_PREF list) ≡ true → with_pref list ≡ list
 with_pref-same list e = rw e refl
 
-with_pref-All : (P : Attribute → Type 0) (list : List Attribute) → P default_pref → AllByRecursion P list → AllByRecursion P (with_pref list)
+pub with_pref-All : (P : Attribute → Type 0) (list : List Attribute) → P default_pref → AllByRecursion P list → AllByRecursion P (with_pref list)
 with_pref-All P list first each = cond_both (is_some (value_of LOCAL_PREF list)) list (default_pref ∷ list) (AllByRecursion P) (λ _. each) (λ _. (first, each))
 
 -- its value, or the default's

@@ -18,4 +18,5 @@ pub mod MemberLemmas
 pub mod WalkLemmas
 pub mod CodecLemmas
 pub mod RecordLemmas
+pub mod FaultlessLemmas
 pub mod Computed

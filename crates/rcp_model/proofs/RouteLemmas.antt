@@ -26,7 +26,7 @@ number_or-pref_or None = refl
 number_or-pref_or (Some value) = refl
 
 module _ (list : List Attribute) (short : AllByRecursion IsShort list) where
-  value_again : (kind : ℕ) → is_recognised kind ≡ true → eqb LOCAL_PREF kind ≡ false → value_of kind (attributes_in (canonical_octets list)) ≡ value_of kind list
+  pub value_again : (kind : ℕ) → is_recognised kind ≡ true → eqb LOCAL_PREF kind ≡ false → value_of kind (attributes_in (canonical_octets list)) ≡ value_of kind list
   value_again kind recognised other = value_of-again list short kind ∙ value_of-canonical kind list recognised other
 
   HaveOneRoute-again : HaveOneRoute (attributes_in (canonical_octets list)) list

@@ -1,14 +1,17 @@
 -- UPDATEs: that one that is written is read again, and what it does to a table.
-use Rattle.std.proofs.Common.{◌≡◌, ℕ, suc, ◌+◌, ◌<◌, ◌≤◌, true, false, List, [], ◌∷◌, ◌++◌, length, take, drop, Some, refl, sym, ap, ◌∙◌, subst, arith, eqb, eq-eqb, ltb, leb, length-append, append_assoc, append-nil, le-leb, le-ltb, take_at, drop_at}
+use Rattle.std.proofs.Common.{◌≡◌, ℕ, suc, ◌+◌, ◌<◌, ◌≤◌, true, false, not, None, List, [], ◌∷◌, ◌++◌, length, take, drop, Some, refl, sym, ap, ◌∙◌, subst, arith, eqb, eq-eqb, ltb, leb, length-append, append_assoc, append-nil, le-leb, le-ltb, take_at, drop_at}
 use Rattle.std.specs.List.{concat, flat_map, AllByRecursion}
-use Rattle.std.specs.Int.{w16, to_be_bytes}
+use Rattle.std.specs.Prelude.{filter}
+use Rattle.std.specs.Int.{Width, w16, to_be_bytes}
 use Rattle.std.proofs.lemmas.Bool.{or_from, and_from}
 use Rattle.std.proofs.lemmas.Nat.{from_be_bytes-to_be_bytes_2}
 use Rattle.rcp_base.specs.IpPrefix.{IpPrefix, IsPrefix, prefix_octets}
 use Rattle.rcp_model.specs.Messages.{is_outside, type_field, message_size, IsMessage, messages_in, message_octets}
-use Rattle.rcp_model.specs.Updates.{Sections, leading_number, after_section, section, has_section, sections_of, prefixes_in, update_octets, Table, withdraw_all, announce_all, after_message, after_messages, replay}
+use Rattle.rcp_model.specs.Maps.{is_among}
+use Rattle.rcp_model.specs.Attributes.{attributes_in, attributes_fault, or_else}
+use Rattle.rcp_model.specs.Updates.{prefixes_fault, update_fault, changes_of, Sections, leading_number, after_section, section, has_section, sections_of, prefixes_in, update_octets, Table, withdraw_all, announce_all, after_message, after_messages, replay}
 use Rattle.rcp_model.proofs.ReadingLemmas.{IsFront-message, IsMessage-message_octets, length-message_octets, messages_in-cons, messages_in-concat}
-use Rattle.rcp_model.proofs.SectionLemmas.{prefixes_in-written}
+use Rattle.rcp_model.proofs.SectionLemmas.{prefixes_in-written, prefixes_fault-written}
 
 -- ---- one section
 
@@ -64,6 +67,16 @@ pub after_message-sections : (message : List ℕ) (table : Table) (sections : Se
 unfolding after_message
 after_message-sections message table sections e kind = rw (e, after_message) (rw kind refl)
 
+update_fault-sections : (width : Width) (body : List ℕ) (sections : Sections) → sections_of body ≡ Some sections
+    → update_fault width body ≡ or_else (attributes_fault width (not (eqb (length sections.nlri) 0)) sections.attributes) (or_else (prefixes_fault sections.withdrawn) (prefixes_fault sections.nlri))
+unfolding update_fault
+update_fault-sections width body sections e = rw (e, update_fault) refl
+
+changes_of-sections : (body : List ℕ) (sections : Sections) → sections_of body ≡ Some sections
+    → changes_of body ≡ record { withdrawn = filter (λ p. not (is_among (prefixes_in sections.nlri) p)) (prefixes_in sections.withdrawn); announced = prefixes_in sections.nlri; attributes = attributes_in sections.attributes }
+unfolding changes_of
+changes_of-sections body sections e = rw (e, changes_of) refl
+
 -- ---- a whole UPDATE
 
 module _ (withdrawn : List IpPrefix) (attributes : List ℕ) (announced : List IpPrefix) where
@@ -104,6 +117,22 @@ module _ (withdrawn : List IpPrefix) (attributes : List ℕ) (announced : List I
         → after_message (update_octets withdrawn attributes announced) table ≡ announce_all attributes announced (withdraw_all withdrawn table)
     after_message-update_octets table gone new =
         after_message-sections (update_octets withdrawn attributes announced) table _ sections_of-update_octets (eq-eqb _ 2 type_field-update_octets)
+        ∙ rw (prefixes_in-written withdrawn gone, prefixes_in-written announced new) refl
+
+    -- it is faultless where its attributes are
+    pub update_fault-update_octets : (width : Width) → AllByRecursion IsPrefix withdrawn → AllByRecursion IsPrefix announced
+        → attributes_fault width (not (eqb (length (flat_map prefix_octets announced)) 0)) attributes ≡ None
+        → update_fault width (drop 19 (update_octets withdrawn attributes announced)) ≡ None
+    update_fault-update_octets width gone new faultless =
+        update_fault-sections width (drop 19 (update_octets withdrawn attributes announced)) _ sections_of-update_octets
+        ∙ rw (faultless, prefixes_fault-written withdrawn gone) (prefixes_fault-written announced new)
+
+    -- and changes what it was written for
+    pub changes_of-update_octets : AllByRecursion IsPrefix withdrawn → AllByRecursion IsPrefix announced
+        → changes_of (drop 19 (update_octets withdrawn attributes announced))
+        ≡ record { withdrawn = filter (λ p. not (is_among announced p)) withdrawn; announced = announced; attributes = attributes_in attributes }
+    changes_of-update_octets gone new =
+        changes_of-sections (drop 19 (update_octets withdrawn attributes announced)) _ sections_of-update_octets
         ∙ rw (prefixes_in-written withdrawn gone, prefixes_in-written announced new) refl
 
 -- ---- messages one after another

@@ -1,10 +1,10 @@
 //! The canonical form of path attributes (RFC 4271 sections 4.3 and 5): what it keeps, and that it is read as itself.
 
-ghost use Rattle.std.specs.Prelude.{◌≡◌, ◌≢◌, ℕ, ◌<◌, true, List, ◌∷◌, [], map, Some, unwrap_or};
+ghost use Rattle.std.specs.Prelude.{◌≡◌, ◌≢◌, ℕ, ◌<◌, Bool, true, List, ◌∷◌, [], map, Some, None, unwrap_or};
 ghost use Rattle.std.specs.Int.{Width};
 ghost use Rattle.std.specs.List.{All};
 ghost use Rattle.std.specs.List.Sorted.{IsNonDecreasingBy};
-ghost use Rattle.rcp_model.specs.Attributes.{Attribute, LOCAL_PREF, is_recognised, attributes_in, value_of, has_route, canonical, canonical_octets};
+ghost use Rattle.rcp_model.specs.Attributes.{Attribute, LOCAL_PREF, is_recognised, attributes_in, value_of, attributes_fault, has_route, canonical, canonical_octets};
 ghost use Rattle.rcp_model.specs.Routes.{route_of, IsRoute};
 
 /// The canonical form has the types in order, the value of each recognised type as it was read, and LOCAL_PREF always:
@@ -55,4 +55,17 @@ pub fn route_follows_from_its_octets()
 pub fn route_is_in_form()
     ensures { (octets : List ℕ) (width : Width) (as_number : ℕ) → All (λ o. o < 256) octets
         → has_route (attributes_in octets) ≡ true → IsRoute (route_of width as_number (attributes_in octets)) }
+{}
+
+/// The canonical octets of faultless attributes are faultless, as those of an UPDATE with NLRI or without.
+pub fn canonical_octets_are_faultless()
+    ensures { (width : Width) (nlri : Bool) (octets : List ℕ) → All (λ o. o < 256) octets
+        → attributes_fault width nlri octets ≡ None
+        → attributes_fault width nlri (canonical_octets (attributes_in octets)) ≡ None }
+{}
+
+/// The attributes of a faultless UPDATE with NLRI have ORIGIN, AS_PATH and NEXT_HOP.
+pub fn faultless_announcement_has_a_route()
+    ensures { (width : Width) (octets : List ℕ) → attributes_fault width true octets ≡ None
+        → has_route (attributes_in octets) ≡ true }
 {}

@@ -1,11 +1,14 @@
 //! Octets have one reading as messages (RFC 4271 section 4), whatever they are and however they are cut, and what is
 //! written is read again.
 
-ghost use Rattle.std.specs.Prelude.{◌≡◌, ℕ, ◌+◌, ◌<◌, ◌≤◌, false, List, ◌∷◌, ◌++◌, length, drop, Some};
+ghost use Rattle.std.specs.Prelude.{◌≡◌, ℕ, ◌+◌, ◌<◌, ◌≤◌, false, List, ◌∷◌, ◌++◌, length, drop, filter, not, ◌==◌, Some, None};
+ghost use Rattle.std.specs.Int.{Width};
 ghost use Rattle.std.specs.List.{concat, flat_map, All, AllByRecursion};
 ghost use Rattle.rcp_base.specs.IpPrefix.{IpPrefix, IsPrefix, prefix_octets};
 ghost use Rattle.rcp_model.specs.Messages.{is_outside, least_length, greatest_length, type_field, IsMessage, IsReading, messages_in, rest_of, message_octets};
-ghost use Rattle.rcp_model.specs.Updates.{sections_of, prefixes_in, update_octets, Table, withdraw_all, announce_all, after_message};
+ghost use Rattle.rcp_model.specs.Maps.{is_among};
+ghost use Rattle.rcp_model.specs.Attributes.{attributes_in, attributes_fault};
+ghost use Rattle.rcp_model.specs.Updates.{update_fault, changes_of, sections_of, prefixes_in, update_octets, Table, withdraw_all, announce_all, after_message};
 
 /// Each list of octets is whole messages and then a rest in front of which no whole message stands.
 pub fn octets_are_messages()
@@ -63,6 +66,23 @@ pub fn written_update_is_read_again()
           attributes = attributes;
           nlri = flat_map prefix_octets announced;
         }) }
+{}
+
+/// An UPDATE that is written is faultless where its attributes are, and changes what it was written for.
+pub fn written_update_is_faultless()
+    ensures faultless { (withdrawn announced : List IpPrefix) (attributes : List ℕ) (width : Width)
+        → length (update_octets withdrawn attributes announced) ≤ 4096
+        → AllByRecursion IsPrefix withdrawn → AllByRecursion IsPrefix announced
+        → attributes_fault width (not (length (flat_map prefix_octets announced) == 0)) attributes ≡ None
+        → update_fault width (drop 19 (update_octets withdrawn attributes announced)) ≡ None }
+    ensures changes { (withdrawn announced : List IpPrefix) (attributes : List ℕ)
+        → length (update_octets withdrawn attributes announced) ≤ 4096
+        → AllByRecursion IsPrefix withdrawn → AllByRecursion IsPrefix announced
+        → changes_of (drop 19 (update_octets withdrawn attributes announced)) ≡ record {
+          withdrawn = filter (λ p. not (is_among announced p)) withdrawn;
+          announced = announced;
+          attributes = attributes_in attributes;
+        } }
 {}
 
 /// Prefixes that are written one after another are read again, in their order.
