@@ -1,0 +1,23 @@
+//! BGP messages (RFC 4271 section 4), read and written.
+//!
+//! Model: a message is the list of its octets, and an UPDATE is a function of its withdrawn prefixes, its path
+//! attributes and its NLRI, `update_octets` of `rcp_model`.
+//!
+//! A caller may rely on this: what `write_update` writes is exactly the octets of that UPDATE, and it is refused
+//! exactly where a message of 4,096 octets has no room for it. `read_narrow` reads one form of UPDATE alone, and
+//! nothing about what it reads is promised yet but the ranges of its values.
+//!
+//! ```text
+//! let mut out = [0; MOST_OCTETS];
+//! let count = write_update(&[], attrs, &[prefix], &mut out);
+//! ```
+#![tactic(auto)]
+
+mod narrow;
+mod writing;
+
+pub use narrow::{NarrowUpdate, next_prefix, read_narrow};
+pub use writing::{MOST_OCTETS, write_update};
+
+#[cfg(test)]
+mod tests;
