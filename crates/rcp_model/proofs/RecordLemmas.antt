@@ -5,15 +5,10 @@ use Rattle.std.proofs.lemmas.Bool.{cases_Bool, cases_lt, and_parts, and_from, eq
 use Rattle.std.proofs.lemmas.List.{append-nil, take_at, drop_at, length-append, length-drop, length-take, drop-take, get_or-take}
 use Rattle.std.proofs.lemmas.Nat.{from_be_bytes-to_be_bytes_4}
 use Rattle.rcp_model.specs.Cut.{cut}
-use Rattle.rcp_model.specs.Feed.{FeedRecord, ROSTER, READY, OCTETS, DRAIN, FINISH, body_length, record_size, record_of, records_in, record_octets, RosterOf}
+use Rattle.rcp_model.specs.Feed.{FeedRecord, ROSTER, READY, OCTETS, DRAIN, FINISH, body_length, record_size, record_of, records_in, record_octets, FitsFrame}
 use Rattle.rcp_model.specs.Meaning.{Platform, step}
 use Rattle.rcp_model.specs.Plain.{may_be, is_plausible, has_form, is_end, first_roster, Finished, TooLong, BadBody, most_octets, record_length, ending, formed}
 use Rattle.rcp_model.proofs.CutLemmas.{cut-append, cut-front, cut-stop}
-
--- a record whose source and length fit their fields
-pub record FitsFrame (item : FeedRecord) : Type 0 where
-  pub source : item.source < 2 ^ 32
-  pub body : length item.body < 2 ^ 32
 
 spelled : (item : FeedRecord) (more : List ℕ) → record_octets item ++ more ≡ item.kind ∷ (to_be_bytes w32 item.source ++ (to_be_bytes w32 (length item.body) ++ (item.body ++ more)))
 spelled item more = simp append_assoc

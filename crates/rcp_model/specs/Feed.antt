@@ -1,5 +1,5 @@
 -- Recorded feeds: records in frames, and the roster that the first of them holds, in the plain form that is read today.
-use Rattle.std.specs.Prelude.{◌≡◌, ℕ, ◌+◌, Bool, true, false, not, ◌&&◌, ◌||◌, ◌==◌, List, [], ◌∷◌, ◌++◌, length, take, drop, map, slice_index, Option, Some, None, is_some, is_none, option_and_then, nat_lt, nat_le, if◌then◌else◌, bytes_eq, codes}
+use Rattle.std.specs.Prelude.{◌≡◌, ℕ, ◌+◌, ◌^◌, ◌<◌, Bool, true, false, not, ◌&&◌, ◌||◌, ◌==◌, List, [], ◌∷◌, ◌++◌, length, take, drop, map, slice_index, Option, Some, None, is_some, is_none, option_and_then, nat_lt, nat_le, if◌then◌else◌, bytes_eq, codes}
 use Rattle.std.specs.List.{list_any, slice_split}
 use Rattle.std.specs.Int.{w32, to_be_bytes, from_be_bytes}
 use Rattle.rcp_base.specs.Text.{number_of, address_of}
@@ -31,6 +31,11 @@ records_in octets = map record_of (cut record_size octets).0
 -- the octets of a record
 abbrev pub record_octets : FeedRecord → List ℕ
 record_octets item = item.kind ∷ to_be_bytes w32 item.source ++ to_be_bytes w32 (length item.body) ++ item.body
+
+-- a record whose source and length fit their fields
+pub record FitsFrame (item : FeedRecord) : Type 0 where
+  pub source : item.source < 2 ^ 32
+  pub body : length item.body < 2 ^ 32
 
 -- the kinds, by their letters
 abbrev pub ROSTER : ℕ

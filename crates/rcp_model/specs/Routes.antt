@@ -36,7 +36,7 @@ neighbour_of as_number (segment ∷ segments) = if segment.kind == AS_SEQUENCE t
   first_or other [] = other
   first_or other (n ∷ numbers) = n
 
--- octets that leave no room for a prefix in an UPDATE of 4,096 octets
+-- octets that leave no room for the longest prefix in an UPDATE of 4,096 octets
 abbrev pub is_long : List ℕ → Bool
 is_long octets = nat_lt 4068 (length octets)
 
