@@ -1,5 +1,6 @@
 // One narrow form of UPDATE, read.
-ghost use Rattle.std.specs.Prelude.{◌≡◌, ◌+◌, ◌*◌, ◌<◌, ◌≤◌, length, IfSome, MatchOption};
+ghost use Rattle.std.specs.Prelude.{◌≡◌, ◌+◌, ◌-◌, ◌<◌, ◌≤◌, length, drop, IfSome, IsNone};
+ghost use Rattle.rcp_base.specs.IpPrefix.{prefix_at};
 
 use rcp_base::{Addr, Prefix};
 
@@ -68,7 +69,12 @@ pub fn read_narrow(message: &[u8]) -> Option<NarrowUpdate<'_>>
 
 /// The prefix at the front of a section of prefixes, and the rest. None at the end, and where a prefix is malformed.
 pub fn next_prefix(section: &[u8]) -> Option<(Prefix, &[u8])>
-    ensures { IfSome result (λ found. length found.1.now < length section.now) }
+    ensures found { IfSome result (λ found.
+        prefix_at section.now ≡ Some (found.0, length section.now - length found.1.now)) }
+    ensures rest { IfSome result (λ found.
+        found.1.now ≡ drop (length section.now - length found.1.now) section.now) }
+    ensures shorter { IfSome result (λ found. length found.1.now < length section.now) }
+    ensures none { IsNone result → prefix_at section.now ≡ None }
 {
     let (prefix, count) = Prefix::read_octets(section)?;
     let (_, rest) = section.split_at(count);
