@@ -1,0 +1,32 @@
+//! The commands of the program `rcp`, over any source and sink of octets.
+//!
+//! Model: a run reads words and a stream of octets, writes octets, and answers one `Status`. Its one command so far,
+//! `replay`, reads a recorded feed and writes the UPDATEs that a route control platform sends to its routers for it.
+//!
+//! A caller may rely on this: a run ends for every input, source and sink; it answers `Usage` exactly where the words
+//! are those of no command, `Read` only where the source failed, and `Write` only where the sink failed.
+//!
+//! ```text
+//! let status = run(&rt, rt.alloc(), &["replay"], &mut source, &mut sink);
+//! ```
+#![tactic(auto)]
+
+mod announcements;
+mod costs;
+mod decision;
+mod engine;
+mod feed;
+mod output;
+mod prefixes;
+mod refusal;
+mod replay;
+mod roster;
+mod routes;
+mod status;
+mod table;
+
+pub use replay::run;
+pub use status::{FeedWhy, Status};
+
+#[cfg(test)]
+mod tests;
