@@ -3,3 +3,4 @@ pub mod TextLemmas
 pub mod AddressLemmas
 pub mod PrefixTextLemmas
 pub mod WritingLemmas
+pub mod FeedExamples

@@ -1,2 +1,3 @@
 pub mod IpPrefix
 pub mod Text
+pub mod Feed

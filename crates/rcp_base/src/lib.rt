@@ -13,11 +13,13 @@
 //! ```
 #![tactic(auto)]
 
+mod kinds;
 mod names;
 mod no_memory;
 mod prefix;
 mod text;
 
+pub use kinds::{FeedWhy, Kind, RosterWhy};
 pub use names::{Addr, Member, RouterId, Slot};
 pub use no_memory::NoMemory;
 pub use prefix::{Prefix, octets_are_read_again, octets_tell_the_prefix, shard_of};
