@@ -4,3 +4,4 @@ pub mod AddressLemmas
 pub mod PrefixTextLemmas
 pub mod WritingLemmas
 pub mod FeedExamples
+pub mod RosterExamples

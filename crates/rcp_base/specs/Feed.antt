@@ -1,7 +1,8 @@
 -- Recorded feeds: records in frames, one behind the other, and the first fault.
-use Rattle.std.specs.Prelude.{◌≡◌, ℕ, zero, suc, ◌+◌, ◌^◌, ◌<◌, ◌≤◌, Bool, true, false, not, ◌&&◌, ◌||◌, ◌==◌, List, [], ◌∷◌, ◌++◌, length, take, drop, filter, slice_index, Option, Some, None, is_none, unwrap_or, Result, Ok, Err, nat_lt, nat_le, if◌then◌else◌}
+use Rattle.std.specs.Prelude.{ℕ, zero, suc, ◌+◌, ◌^◌, ◌<◌, ◌≤◌, Bool, true, false, not, ◌&&◌, ◌||◌, ◌==◌, List, [], ◌∷◌, ◌++◌, length, take, drop, filter, slice_index, Option, Some, None, is_none, unwrap_or, Result, Ok, Err, nat_lt, nat_le, if◌then◌else◌}
 use Rattle.std.specs.Int.{w32, w64, to_be_bytes, from_be_bytes}
 use Rattle.std.specs.List.{AllByRecursion}
+use Rattle.rcp_base.specs.Checks.{first_failing, unless}
 use Rattle.rcp_base.specs.declared.kinds.Kind.{Kind}
 use Rattle.rcp_base.specs.declared.kinds.Kind.TheVariants.{Roster, Ready, Raw, Octets, Closed, Links, Time, Slice, Drain, Finish}
 use Rattle.rcp_base.specs.declared.kinds.FeedWhy.{FeedWhy}
@@ -172,15 +173,6 @@ after state item = record {
 }
 
 -- ---- faults
-
--- the first check that fails, of checks that say whether they fail and which fault it is
-abbrev pub first_failing : List (Bool × FeedWhy) → Option FeedWhy
-first_failing [] = None
-first_failing (check ∷ checks) = if check.0 then Some check.1 else first_failing checks
-
-abbrev pub unless : {X : Type 0} → Option FeedWhy → X → Result X FeedWhy
-unless None x = Ok x
-unless (Some fault) x = Err fault
 
 -- the checks of a kind and a length, and those of a record whose body is there
 abbrev pub header_checks : FeedState → Kind → ℕ → List (Bool × FeedWhy)

@@ -1,3 +1,5 @@
 pub mod IpPrefix
 pub mod Text
+pub mod Checks
 pub mod Feed
+pub mod Roster
