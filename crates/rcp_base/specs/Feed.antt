@@ -1,7 +1,6 @@
 -- Recorded feeds: records in frames, one behind the other, and the first fault.
-use Rattle.std.specs.Prelude.{ℕ, zero, suc, ◌+◌, ◌^◌, ◌<◌, ◌≤◌, Bool, true, false, not, ◌&&◌, ◌||◌, ◌==◌, List, [], ◌∷◌, ◌++◌, length, take, drop, filter, slice_index, Option, Some, None, is_none, unwrap_or, Result, Ok, Err, nat_lt, nat_le, if◌then◌else◌}
+use Rattle.std.specs.Prelude.{ℕ, zero, suc, ◌+◌, ◌^◌, ◌<◌, ◌≤◌, Bool, true, false, not, ◌&&◌, ◌||◌, ◌==◌, All, List, [], ◌∷◌, ◌++◌, length, take, drop, filter, slice_index, Option, Some, None, is_none, unwrap_or, Result, Ok, Err, nat_lt, nat_le, if◌then◌else◌}
 use Rattle.std.specs.Int.{w32, w64, to_be_bytes, from_be_bytes}
-use Rattle.std.specs.List.{AllByRecursion}
 use Rattle.rcp_base.specs.Checks.{first_failing, unless}
 use Rattle.rcp_base.specs.declared.kinds.Kind.{Kind}
 use Rattle.rcp_base.specs.declared.kinds.Kind.TheVariants.{Roster, Ready, Raw, Octets, Closed, Links, Time, Slice, Drain, Finish}
@@ -54,7 +53,7 @@ letter_of Slice = 87
 letter_of Drain = 68
 letter_of Finish = 90
 
-abbrev pub kind_of : ℕ → Option Kind
+unfoldable pub kind_of : ℕ → Option Kind
 kind_of letter =
     if letter == 67 then Some Roster else (
     if letter == 69 then Some Ready else (
@@ -127,7 +126,7 @@ record_octets item = frame (letter_of item.kind) item.source item.body
 pub record IsRecord (item : FeedRecord) : Type 0 where
   pub source : item.source < 2 ^ 32
   pub length : length item.body ≤ 65536
-  pub octets : AllByRecursion (λ octet. octet < 256) item.body
+  pub octets : All (λ octet. octet < 256) item.body
 
 -- the seconds of a time record
 abbrev pub moment_of : List ℕ → ℕ
@@ -197,26 +196,29 @@ kind_in octets = unwrap_or (kind_of (letter_at octets)) Finish
 abbrev pub record_in : List ℕ → FeedRecord
 record_in octets = record { kind = kind_in octets; source = source_at octets; body = body_at octets }
 
+-- the checks of its header
+abbrev pub frame_checks : FeedState → List ℕ → List (Bool × FeedWhy)
+frame_checks state octets = (is_none (kind_of (letter_at octets)), why.Kind) ∷ header_checks state (kind_in octets) (length_at octets)
+
 -- all checks of the record in front, in their order
 abbrev pub checks : FeedState → List ℕ → List (Bool × FeedWhy)
 checks state octets =
     (nat_le (2 ^ 40) state.octets, why.TooLong)
     ∷ (nat_lt (length octets) 9, why.Truncated)
-    ∷ (is_none (kind_of (letter_at octets)), why.Kind)
-    ∷ header_checks state (kind_in octets) (length_at octets)
+    ∷ frame_checks state octets
     ++ (nat_lt (length octets) (frame_size octets), why.Truncated)
     ∷ body_checks state (record_in octets)
 
-abbrev pub fault_in_front : FeedState → List ℕ → Option FeedWhy
+unfoldable pub fault_in_front : FeedState → List ℕ → Option FeedWhy
 fault_in_front state octets = first_failing (checks state octets)
 
 -- the checks of a record that is whole
-abbrev pub fault_of : FeedState → FeedRecord → Option FeedWhy
+unfoldable pub fault_of : FeedState → FeedRecord → Option FeedWhy
 fault_of state item =
     first_failing ((nat_le (2 ^ 40) state.octets, why.TooLong) ∷ header_checks state item.kind (length item.body) ++ body_checks state item)
 
 -- the record in front and the octets behind it, or its first fault
-abbrev pub front : FeedState → List ℕ → Result (FeedRecord × List ℕ) FeedWhy
+unfoldable pub front : FeedState → List ℕ → Result (FeedRecord × List ℕ) FeedWhy
 front state octets = unless (fault_in_front state octets) (record_in octets, drop (frame_size octets) octets)
 
 -- ---- a whole feed
@@ -233,7 +235,7 @@ abbrev pub with_first : FeedRecord → Feed → Feed
 with_first item feed = record feed { items = item ∷ feed.items }
 
 -- each record takes octets, so there are no more records than octets
-abbrev pub feed_within : ℕ → FeedState → List ℕ → Feed
+unfoldable pub feed_within : ℕ → FeedState → List ℕ → Feed
 feed_within zero state octets = record { items = []; state = state; fault = None; left = octets }
 feed_within (suc most) state octets = elim (front state octets) [
   | Ok found ↦ if is_finish found.0.kind

@@ -1,0 +1,5 @@
+pub mod Reading
+pub mod Taking
+pub mod HeaderOf
+pub mod Numbers
+pub mod Writing
