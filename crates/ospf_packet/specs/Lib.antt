@@ -1,0 +1,3 @@
+pub mod OspfStream
+pub mod Framing
+pub mod Ends
