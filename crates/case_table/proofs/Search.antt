@@ -1,5 +1,5 @@
 -- Where codes rise, the row at a place is the row of its code, and a search that finds no place finds no row.
-use Rattle.std.proofs.Common.{◌≡◌, ◌≢◌, ℕ, zero, suc, ◌+◌, ◌<◌, ◌≤◌, true, false, eqb, List, [], ◌∷◌, length, get_or, All, Some, None, refl, subst, inl, inr, arith}
+use Rattle.std.proofs.Common.{◌≡◌, ◌≢◌, ℕ, zero, suc, ◌+◌, ◌<◌, ◌≤◌, true, false, eqb, leb, List, [], ◌∷◌, length, get_or, All, Some, None, refl, subst, inl, inr, arith}
 use Rattle.std.specs.Prelude.{Contains}
 use Rattle.std.specs.declared.cmp.Ordering.{Ordering}
 use Rattle.std.specs.declared.cmp.Ordering.TheVariants.{Less, Equal, Greater}
@@ -10,15 +10,18 @@ use Rattle.std.proofs.lemmas.Bool.Decides.{nat_tests}
 use Rattle.case_table.specs.declared.Row.{Row}
 use Rattle.case_table.specs.Rows.{rises_from, codes_rise, row_of}
 
+-- behind a row the codes rise from the next number
+behind : (low : ℕ) (row : Row) (rows : List Row) → rises_from low (row ∷ rows) ≡ true → rises_from (row.code + 1) rows ≡ true
+behind low row rows up = (and_parts (leb low row.code) (rises_from (row.code + 1) rows) up).1
+
 -- no code is below the one that the rows rise from
 not_below : (low : ℕ) (rows : List Row) → rises_from low rows ≡ true → (i : ℕ) (d : Row) → i < length rows → low ≤ (get_or rows i d).code
 not_below low [] up i d lt = absurd (omega arith)
 not_below low (row ∷ rows) up zero d lt = leb-true low row.code (and_parts _ _ up).0
 not_below low (row ∷ rows) up (suc i) d lt =
-    let parts = and_parts _ _ up in
-    let first : low ≤ row.code = leb-true low row.code parts.0 in
+    let first : low ≤ row.code = leb-true low row.code (and_parts _ _ up).0 in
     let inside : i < length rows = omega arith in
-    let rest : row.code + 1 ≤ (get_or rows i d).code = not_below (row.code + 1) rows parts.1 i d inside in
+    let rest : row.code + 1 ≤ (get_or rows i d).code = not_below (row.code + 1) rows (behind low row rows up) i d inside in
     omega arith
 
 -- the code at a later place is no less
@@ -28,10 +31,10 @@ rises low (row ∷ rows) up zero zero d le lt = omega arith
 rises low (row ∷ rows) up (suc i) zero d le lt = absurd (omega arith)
 rises low (row ∷ rows) up zero (suc j) d le lt =
     let inside : j < length rows = omega arith in
-    let rest : row.code + 1 ≤ (get_or rows j d).code = not_below (row.code + 1) rows (and_parts _ _ up).1 j d inside in
+    let rest : row.code + 1 ≤ (get_or rows j d).code = not_below (row.code + 1) rows (behind low row rows up) j d inside in
     omega arith
 rises low (row ∷ rows) up (suc i) (suc j) d le lt =
-    rises (row.code + 1) rows (and_parts _ _ up).1 i j d (omega arith) (omega arith)
+    rises (row.code + 1) rows (behind low row rows up) i j d (omega arith) (omega arith)
 
 -- each row is the row of its code
 row_of-at : (low : ℕ) (rows : List Row) → rises_from low rows ≡ true → (i : ℕ) (d : Row) → i < length rows → row_of rows (get_or rows i d).code ≡ Some (get_or rows i d)
@@ -41,9 +44,9 @@ row_of-at low (row ∷ rows) up zero d lt =
     rw same refl
 row_of-at low (row ∷ rows) up (suc i) d lt =
     let inside : i < length rows = omega arith in
-    let rest : row.code + 1 ≤ (get_or rows i d).code = not_below (row.code + 1) rows (and_parts _ _ up).1 i d inside in
+    let rest : row.code + 1 ≤ (get_or rows i d).code = not_below (row.code + 1) rows (behind low row rows up) i d inside in
     let other : eqb row.code (get_or rows i d).code ≡ false = grind (arith, nat_tests) in
-    rw other (row_of-at (row.code + 1) rows (and_parts _ _ up).1 i d inside)
+    rw other (row_of-at (row.code + 1) rows (behind low row rows up) i d inside)
 
 -- no row has the code, so none is found
 pub row_of-none : (rows : List Row) (code : ℕ) → All (λ row. row.code ≢ code) rows → row_of rows code ≡ None
