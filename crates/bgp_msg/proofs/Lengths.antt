@@ -25,7 +25,7 @@ pub pieces-update_octets : (withdrawn : List IpPrefix) (attrs : List ℕ) (nlri 
 unfolding update_octets
 pieces-update_octets withdrawn attrs nlri total count e f =
     let body = to_be_bytes w16 (length (flat_map prefix_octets withdrawn)) ++ flat_map prefix_octets withdrawn
-        ++ to_be_bytes w16 (length attrs) ++ attrs ++ flat_map prefix_octets nlri in
+    ++ to_be_bytes w16 (length attrs) ++ attrs ++ flat_map prefix_octets nlri in
     let long : length body ≡ 4 + length (flat_map prefix_octets withdrawn) + length attrs + length (flat_map prefix_octets nlri) = simp length-append (omega arith) in
     let t : total ≡ 19 + length body = omega arith in
     rw (t, f) refl

@@ -4,8 +4,8 @@
 //! attributes and its NLRI, `update_octets` of `rcp_model`.
 //!
 //! A caller may rely on this: what `write_update` writes is exactly the octets of that UPDATE, and it is refused
-//! exactly where a message of 4,096 octets has no room for it. `read_narrow` reads one form of UPDATE alone, and
-//! nothing about what it reads is promised yet but the ranges of its values.
+//! exactly where a message of 4,096 octets has no room for it. `read_narrow` reads one form of UPDATE alone, exactly
+//! where the octets are a whole faultless UPDATE of that form, and its fields tell the route of the attributes.
 //!
 //! ```text
 //! let mut out = [0; MOST_OCTETS];

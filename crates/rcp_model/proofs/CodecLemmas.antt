@@ -41,7 +41,7 @@ cell-whole p None form fits = IsMessage-update_octets (p ∷ []) [] [] (cell-len
 cell-whole p (Some octets) form fits = IsMessage-update_octets [] octets (p ∷ []) (cell-length p (Some octets) form fits)
 
 cell-effect : (p : IpPrefix) (value : Option (List ℕ)) → IsPrefix p → ((octets : List ℕ) → value ≡ Some octets → length octets ≤ 4068)
-  → (table : Table) (q : IpPrefix) → get_at same_prefix q (after_message (cell_update p value) table) ≡ cond (same_prefix q p) value (get_at same_prefix q table)
+    → (table : Table) (q : IpPrefix) → get_at same_prefix q (after_message (cell_update p value) table) ≡ cond (same_prefix q p) value (get_at same_prefix q table)
 cell-effect p None form fits table q =
     ap (get_at same_prefix q) (after_message-update_octets (p ∷ []) [] [] (cell-length p None form fits) table (form, tt) tt)
     ∙ elim (cases_Bool (same_prefix q p)) [
@@ -100,7 +100,7 @@ again : (octets : List ℕ) → All (λ o. o < 256) octets → canonical_octets 
 again octets all = canonical_octets_again (attributes_in octets) (IsShort-attributes_in octets all)
 
 by_sections : (body : List ℕ) (found : Option Sections) → All (λ o. o < 256) body → sections_of body ≡ found → update_fault w16 body ≡ None
-  → AllByRecursion IsPrefix (changes_of body).withdrawn × AllByRecursion IsPrefix (changes_of body).announced
+    → AllByRecursion IsPrefix (changes_of body).withdrawn × AllByRecursion IsPrefix (changes_of body).announced
     × (canonical_octets (attributes_in (canonical_octets (changes_of body).attributes)) ≡ canonical_octets (changes_of body).attributes)
 unfolding changes_of update_fault
 by_sections body None all is faultless = absurd (some_none (rw (is, update_fault) at faultless)) where
@@ -111,14 +111,15 @@ by_sections body (Some sections) all is faultless =
     rw (is, changes_of) (
       filter-form (λ p. not (is_among (prefixes_in sections.nlri) p)) (prefixes_in sections.withdrawn) (prefixes_in-in_form sections.withdrawn octets.withdrawn),
       prefixes_in-in_form sections.nlri octets.nlri,
-      again sections.attributes octets.attributes)
+      again sections.attributes octets.attributes,
+    )
 
 whole : (octets : List ℕ) → All (λ o. o < 256) octets → is_faultless_update octets ≡ true
-  → AllByRecursion IsPrefix (changes_of (drop 19 octets)).withdrawn × AllByRecursion IsPrefix (changes_of (drop 19 octets)).announced
+    → AllByRecursion IsPrefix (changes_of (drop 19 octets)).withdrawn × AllByRecursion IsPrefix (changes_of (drop 19 octets)).announced
     × (canonical_octets (attributes_in (canonical_octets (changes_of (drop 19 octets)).attributes)) ≡ canonical_octets (changes_of (drop 19 octets)).attributes)
 whole octets all faultless =
     by_sections (drop 19 octets) (sections_of (drop 19 octets)) (All-drop (λ o. o < 256) 19 octets all) refl
-      (is_none-is (update_fault w16 (drop 19 octets)) (and_parts _ _ faultless).1)
+    (is_none-is (update_fault w16 (drop 19 octets)) (and_parts _ _ faultless).1)
 
 pub reads_updates : ReadsUpdates
 reads_updates = record {

@@ -81,8 +81,8 @@ after_all-append domain (event ∷ events) more server = after_all-append domain
 update-tables : (domain : Domain) (slot : ℕ) (changes : Changes) (server : Server) → (after_all domain (update_events slot changes) server).tables ≡ server.tables
 update-tables domain slot changes server =
     ap (λ (s : Server). s.tables) (after_all-append domain (map (λ p. Change slot p None) changes.withdrawn) (map (λ p. Change slot p (Some (canonical_octets changes.attributes))) changes.announced) server)
-      ∙ changes-tables domain slot (Some (canonical_octets changes.attributes)) changes.announced (after_all domain (map (λ p. Change slot p None) changes.withdrawn) server)
-      ∙ changes-tables domain slot None changes.withdrawn server
+    ∙ changes-tables domain slot (Some (canonical_octets changes.attributes)) changes.announced (after_all domain (map (λ p. Change slot p None) changes.withdrawn) server)
+    ∙ changes-tables domain slot None changes.withdrawn server
 
 -- ---- connections
 
@@ -143,7 +143,7 @@ sent_to-drained_none n ps before now (c ∷ cs) h =
     ]
 
 sent_to-drained : (n slot : ℕ) (ps : List IpPrefix) (before now : Server) (cs : List Connection) → NumbersDistinct cs → slot_on cs n ≡ Some slot
-  → sent_to n (drained ps before now cs) ≡ concat (changed_cells ps (table_of before slot) (table_of now slot))
+    → sent_to n (drained ps before now cs) ≡ concat (changed_cells ps (table_of before slot) (table_of now slot))
 sent_to-drained n slot ps before now [] d h = absurd cc
 sent_to-drained n slot ps before now (c ∷ cs) d h =
     sent_to-append n (messages_to c.number (changed_cells ps (table_of before (slot_in c.phase)) (table_of now (slot_in c.phase)))) (drained ps before now cs)
@@ -165,7 +165,7 @@ pub record ReadsUpdates : Type 0 where
   pub withdrawn : (octets : List ℕ) → All (λ o. o < 256) octets → is_faultless_update octets ≡ true → AllByRecursion IsPrefix (changes_of (drop 19 octets)).withdrawn
   pub announced : (octets : List ℕ) → All (λ o. o < 256) octets → is_faultless_update octets ≡ true → AllByRecursion IsPrefix (changes_of (drop 19 octets)).announced
   pub attributes : (octets : List ℕ) → All (λ o. o < 256) octets → is_faultless_update octets ≡ true
-    → canonical_octets (attributes_in (canonical_octets (changes_of (drop 19 octets)).attributes)) ≡ canonical_octets (changes_of (drop 19 octets)).attributes
+      → canonical_octets (attributes_in (canonical_octets (changes_of (drop 19 octets)).attributes)) ≡ canonical_octets (changes_of (drop 19 octets)).attributes
 
 pub record Kept (platform : Platform) (outs : List OutRecord) : Type 0 where
   pub settled : Settled (domain_of platform.roster) platform.server
@@ -189,8 +189,10 @@ kept-fresh roster = record {
 } where
   no_table : (table : Table) → None ≡ Some table → ⊥
   no_table table e = cc
+
   no_octets : (octets : List ℕ) → None ≡ Some octets → ⊥
   no_octets octets e = cc
+
   no_slot : (slot : ℕ) → None ≡ Some slot → ⊥
   no_slot slot e = cc
 
@@ -209,7 +211,7 @@ raised platform number slot = record platform {
 
 -- what a connection with a slot is: an earlier one, or the new one
 on_raised : (cs : List Connection) (number slot n s : ℕ) → slot_on (cs ++ record { number = number; phase = Established slot } ∷ []) n ≡ Some s
-  → (slot_on cs n ≡ Some s) ⊎ ((slot_on cs n ≡ None) × (slot ≡ s))
+    → (slot_on cs n ≡ Some s) ⊎ ((slot_on cs n ≡ None) × (slot ≡ s))
 on_raised cs number slot n s h = by_cases (slot_on cs n) refl where
   by_cases : (found : Option ℕ) → slot_on cs n ≡ found → (slot_on cs n ≡ Some s) ⊎ ((slot_on cs n ≡ None) × (slot ≡ s))
   by_cases (Some t) is = inl (is ∙ (sym (slot_on-append_some cs (record { number = number; phase = Established slot }) n t is) ∙ h))
@@ -224,28 +226,28 @@ some_not_none : (table : Table) → Some table ≡ None → ⊥
 some_not_none table e = cc
 
 kept-raised : (platform : Platform) (outs : List OutRecord) (number slot : ℕ) → list_all (λ c. ltb c.number number) platform.connections ≡ true → table_of platform.server slot ≡ None
-  → Kept platform outs → Kept (raised platform number slot) outs
+    → Kept platform outs → Kept (raised platform number slot) outs
 unfolding raised after_all after
 kept-raised platform outs number slot new absent h = record {
   settled = settled-up (domain_of platform.roster) slot platform.server h.settled;
   distinct = distinct-append platform.connections number slot new h.distinct;
   connected = λ n s is.
-    elim (on_raised platform.connections number slot n s is) [
-      | inl old ↦ let had = h.connected n s old in (had.0, table_stays s had.0 had.1)
-      | inr fresh_one ↦ ([], rw (← fresh_one.1) (get_at-put_at_same same_number number_test slot [] platform.server.tables))
-    ];
+      elim (on_raised platform.connections number slot n s is) [
+        | inl old ↦ let had = h.connected n s old in (had.0, table_stays s had.0 had.1)
+        | inr fresh_one ↦ ([], rw (← fresh_one.1) (get_at-put_at_same same_number number_test slot [] platform.server.tables))
+      ];
   told = λ n s table is given.
-    elim (on_raised platform.connections number slot n s is) [
-      | inl old ↦
-          let had = h.connected n s old in
-          let same : Some had.0 ≡ Some table = sym (table_stays s had.0 had.1) ∙ given in
-          let table_is : had.0 ≡ table = cc in
-          h.told n s table old (had.1 ∙ ap Some table_is)
-      | inr fresh_one ↦
-          let first : table_of (after (domain_of platform.roster) (Up slot) platform.server) s ≡ Some [] = rw (← fresh_one.1) (get_at-put_at_same same_number number_test slot [] platform.server.tables) in
-          let same : Some [] ≡ Some table = sym first ∙ given in
-          nothing_sent n table same fresh_one.0
-    ];
+      elim (on_raised platform.connections number slot n s is) [
+        | inl old ↦
+            let had = h.connected n s old in
+            let same : Some had.0 ≡ Some table = sym (table_stays s had.0 had.1) ∙ given in
+            let table_is : had.0 ≡ table = cc in
+            h.told n s table old (had.1 ∙ ap Some table_is)
+        | inr fresh_one ↦
+            let first : table_of (after (domain_of platform.roster) (Up slot) platform.server) s ≡ Some [] = rw (← fresh_one.1) (get_at-put_at_same same_number number_test slot [] platform.server.tables) in
+            let same : Some [] ≡ Some table = sym first ∙ given in
+            nothing_sent n table same fresh_one.0
+      ];
   unknown = λ n is. h.unknown n (earlier n is);
 } where
   table_stays : (s : ℕ) (table : Table) → table_of platform.server s ≡ Some table → get_at same_number s (put_at same_number slot [] platform.server.tables) ≡ Some table
@@ -256,10 +258,12 @@ kept-raised platform outs number slot new absent h = record {
         | inr e ↦ e
       ] in
       get_at-put_at_other same_number number_test slot s [] platform.server.tables other ∙ had
+
   nothing_sent : (n : ℕ) (table : Table) → Some [] ≡ Some table → slot_on platform.connections n ≡ None → Replays (sent_to n outs) table
   nothing_sent n table same none =
       let empty : [] ≡ table = cc in
       rw (h.unknown n none, ← empty) Replays-nothing
+
   earlier : (n : ℕ) → slot_on (platform.connections ++ record { number = number; phase = Established slot } ∷ []) n ≡ None → slot_on platform.connections n ≡ None
   earlier n is = by_cases (slot_on platform.connections n) refl where
     by_cases : (found : Option ℕ) → slot_on platform.connections n ≡ found → slot_on platform.connections n ≡ None
@@ -283,13 +287,13 @@ kept-seated platform outs number (Some slot) h =
 -- ---- an UPDATE is heard
 
 told_again : (platform : Platform) (outs : List OutRecord) (slot : ℕ) (octets : List ℕ) → ReadsUpdates → All (λ o. o < 256) octets → is_faultless_update octets ≡ true
-  → Kept platform outs → Kept (record platform { server = after_all (domain_of platform.roster) (update_events slot (changes_of (drop 19 octets))) platform.server }) outs
+    → Kept platform outs → Kept (record platform { server = after_all (domain_of platform.roster) (update_events slot (changes_of (drop 19 octets))) platform.server }) outs
 told_again platform outs slot octets reads small faultless h = record {
   settled = settled-all (domain_of platform.roster) (update_events slot (changes_of (drop 19 octets))) platform.server
-    (all-append IsGood _ _
+      (all-append IsGood _ _
       (withdrawn-good slot (changes_of (drop 19 octets)).withdrawn (reads.withdrawn octets small faultless))
       (announced-good slot (canonical_octets (changes_of (drop 19 octets)).attributes) (changes_of (drop 19 octets)).announced (reads.attributes octets small faultless) (reads.announced octets small faultless)))
-    h.settled;
+      h.settled;
   distinct = h.distinct;
   connected = λ n s is. let had = h.connected n s is in (had.0, ap (λ (t : List (ℕ × Table)). get_at same_number s t) same ∙ had.1);
   told = λ n s table is given. h.told n s table is (ap (λ (t : List (ℕ × Table)). get_at same_number s t) (sym same) ∙ given);
@@ -299,7 +303,7 @@ told_again platform outs slot octets reads small faultless h = record {
   same = update-tables (domain_of platform.roster) slot (changes_of (drop 19 octets)) platform.server
 
 kept-heard : (platform : Platform) (outs : List OutRecord) (octets : List ℕ) (found : Option ℕ) → ReadsUpdates → All (λ o. o < 256) octets
-  → Kept platform outs → Kept (heard platform octets found) outs
+    → Kept platform outs → Kept (heard platform octets found) outs
 kept-heard platform outs octets None reads small h = h
 kept-heard platform outs octets (Some slot) reads small h =
     elim (cases_Bool (is_faultless_update octets)) [
@@ -318,27 +322,27 @@ module _ (codec : CellUpdates) (platform : Platform) (outs : List OutRecord) (h 
 
   -- what a table has afterwards leaves room for its prefix
   new_fits : (slot : ℕ) (table new : Table) (p : IpPrefix) (octets : List ℕ) → table_of platform.server slot ≡ Some table
-    → ((q : IpPrefix) → get_at same_prefix q new ≡ cond (is_among platform.server.touched q) (offer (domain_of platform.roster) platform.server.announcements platform.server.edges slot q) (get_at same_prefix q table))
-    → get_at same_prefix p new ≡ Some octets → length octets ≤ 4068
+      → ((q : IpPrefix) → get_at same_prefix q new ≡ cond (is_among platform.server.touched q) (offer (domain_of platform.roster) platform.server.announcements platform.server.edges slot q) (get_at same_prefix q table))
+      → get_at same_prefix p new ≡ Some octets → length octets ≤ 4068
   new_fits slot table new p octets had gives is =
       let offered : offer (domain_of platform.roster) platform.server.announcements platform.server.edges slot p ≡ Some octets =
-        elim (cases_Bool (is_among platform.server.touched p)) [
-          | inl e ↦ rw e at (sym (gives p) ∙ is)
-          | inr e ↦ sym (h.settled.offers slot table p had e) ∙ (rw e at (sym (gives p) ∙ is))
-        ] in
+      elim (cases_Bool (is_among platform.server.touched p)) [
+        | inl e ↦ rw e at (sym (gives p) ∙ is)
+        | inr e ↦ sym (h.settled.offers slot table p had e) ∙ (rw e at (sym (gives p) ∙ is))
+      ] in
       offer-fits (domain_of platform.roster) platform.server.announcements platform.server.edges slot p octets (λ e l is. h.settled.canonical.each e p l is) offered
 
   in_form : (slot : ℕ) (table new : Table) (ps : List IpPrefix) → table_of platform.server slot ≡ Some table
-    → ((q : IpPrefix) → get_at same_prefix q new ≡ cond (is_among platform.server.touched q) (offer (domain_of platform.roster) platform.server.announcements platform.server.edges slot q) (get_at same_prefix q table))
-    → AllByRecursion IsPrefix ps → AllByRecursion (FitsAt (Some new)) ps
+      → ((q : IpPrefix) → get_at same_prefix q new ≡ cond (is_among platform.server.touched q) (offer (domain_of platform.roster) platform.server.announcements platform.server.edges slot q) (get_at same_prefix q table))
+      → AllByRecursion IsPrefix ps → AllByRecursion (FitsAt (Some new)) ps
   in_form slot table new [] had gives forms = tt
   in_form slot table new (p ∷ ps) had gives forms =
       (FitsAt-from (Some new) p forms.0 (λ octets is. new_fits slot table new p octets had gives is), in_form slot table new ps had gives forms.1)
 
   -- the octets so far and the UPDATEs of the changed cells replay to the new table
   replays_on : (n slot : ℕ) (table new : Table) → slot_on platform.connections n ≡ Some slot → table_of platform.server slot ≡ Some table
-    → ((q : IpPrefix) → get_at same_prefix q new ≡ cond (is_among platform.server.touched q) (offer (domain_of platform.roster) platform.server.announcements platform.server.edges slot q) (get_at same_prefix q table))
-    → Replays (sent_to n outs ++ concat (changed_cells platform.server.touched (Some table) (Some new))) new
+      → ((q : IpPrefix) → get_at same_prefix q new ≡ cond (is_among platform.server.touched q) (offer (domain_of platform.roster) platform.server.announcements platform.server.edges slot q) (get_at same_prefix q table))
+      → Replays (sent_to n outs ++ concat (changed_cells platform.server.touched (Some table) (Some new))) new
   replays_on n slot table new on had gives =
       let before = h.told n slot table on had in
       let forms = in_form slot table new platform.server.touched had gives h.settled.touched in
@@ -348,7 +352,7 @@ module _ (codec : CellUpdates) (platform : Platform) (outs : List OutRecord) (h 
         whole = ap (λ (l : List ℕ). l ++ concat cells) before.whole ∙ sym (concat-append before.messages cells);
         each = all-append IsMessage before.messages cells before.each (cells-whole codec platform.server.touched (Some table) (Some new) forms);
         gives = λ q. rw (after_messages-append before.messages cells [])
-          (cells-effect codec platform.server.touched (Some table) (Some new) (after_messages before.messages []) q forms
+            (cells-effect codec platform.server.touched (Some table) (Some new) (after_messages before.messages []) q forms
             (elim (cases_Bool (is_among platform.server.touched q)) [
               | inl e ↦ inr (before.gives q, e)
               | inr e ↦ inl (before.gives q ∙ sym (gives q ∙ rw e refl))
@@ -360,18 +364,18 @@ module _ (codec : CellUpdates) (platform : Platform) (outs : List OutRecord) (h 
     settled = settled-all (domain_of platform.roster) (work_events platform.server.touched) platform.server (work-good platform.server.touched) h.settled;
     distinct = h.distinct;
     connected = λ n s is.
-      let had = h.connected n s is in
-      let new = work.tables s had.0 had.1 in
-      (new.0, new.1);
+        let had = h.connected n s is in
+        let new = work.tables s had.0 had.1 in
+        (new.0, new.1);
     told = λ n s table is given.
-      let had = h.connected n s is in
-      let new = work.tables s had.0 had.1 in
-      let same : Some new.0 ≡ Some table = sym new.1 ∙ given in
-      let table_is : new.0 ≡ table = cc in
-      let sent : sent_to n (drain_messages platform) ≡ concat (changed_cells platform.server.touched (Some had.0) (Some new.0)) =
+        let had = h.connected n s is in
+        let new = work.tables s had.0 had.1 in
+        let same : Some new.0 ≡ Some table = sym new.1 ∙ given in
+        let table_is : new.0 ≡ table = cc in
+        let sent : sent_to n (drain_messages platform) ≡ concat (changed_cells platform.server.touched (Some had.0) (Some new.0)) =
         sent_to-drained n s platform.server.touched platform.server (drained_server platform) platform.connections h.distinct is
-          ∙ rw (had.1, new.1) refl in
-      rw (← table_is, all_sent n, sent) (replays_on n s had.0 new.0 is had.1 new.2);
+        ∙ rw (had.1, new.1) refl in
+        rw (← table_is, all_sent n, sent) (replays_on n s had.0 new.0 is had.1 new.2);
     unknown = λ n is. rw (all_sent n, sent_to-drained_none n platform.server.touched platform.server (drained_server platform) platform.connections is, h.unknown n is) refl;
   } where
     all_sent : (n : ℕ) → sent_to n (outs ++ drain_messages platform ++ summary (drained_server platform) (drain platform).updates ∷ []) ≡ sent_to n outs ++ sent_to n (drain_messages platform)
@@ -396,28 +400,28 @@ kept-step codec reads platform outs item small h =
       | inl ready ↦
           let kind_is : item.kind ≡ READY = eqb-true item.kind READY ready in
           rw kind_is (kept-quiet (seated platform item.source (slot_from 0 platform.roster.members (from_be_bytes w32 item.body))) outs
-            (kept-seated platform outs item.source (slot_from 0 platform.roster.members (from_be_bytes w32 item.body)) h))
+          (kept-seated platform outs item.source (slot_from 0 platform.roster.members (from_be_bytes w32 item.body)) h))
       | inr not_ready ↦ elim (cases_Bool (eqb item.kind OCTETS)) [
-          | inl octets ↦
-              let kind_is : item.kind ≡ OCTETS = eqb-true item.kind OCTETS octets in
-              rw kind_is (kept-quiet (heard platform item.body (slot_on platform.connections item.source)) outs
-                (kept-heard platform outs item.body (slot_on platform.connections item.source) reads small h))
-          | inr not_octets ↦ elim (cases_Bool (eqb item.kind DRAIN)) [
-              | inl drains ↦
-                  let kind_is : item.kind ≡ DRAIN = eqb-true item.kind DRAIN drains in
-                  rw (kind_is, ← append_assoc outs (drain_messages platform) (summary (drained_server platform) (drain platform).updates ∷ [])) (kept-drained codec platform outs h)
-              | inr not_drain ↦ rw (not_ready, not_octets, not_drain) (kept-quiet platform outs h)
-            ]
+        | inl octets ↦
+            let kind_is : item.kind ≡ OCTETS = eqb-true item.kind OCTETS octets in
+            rw kind_is (kept-quiet (heard platform item.body (slot_on platform.connections item.source)) outs
+            (kept-heard platform outs item.body (slot_on platform.connections item.source) reads small h))
+        | inr not_octets ↦ elim (cases_Bool (eqb item.kind DRAIN)) [
+          | inl drains ↦
+              let kind_is : item.kind ≡ DRAIN = eqb-true item.kind DRAIN drains in
+              rw (kind_is, ← append_assoc outs (drain_messages platform) (summary (drained_server platform) (drain platform).updates ∷ [])) (kept-drained codec platform outs h)
+          | inr not_drain ↦ rw (not_ready, not_octets, not_drain) (kept-quiet platform outs h)
         ]
+      ]
     ]
 
 pub kept-run : CellUpdates → ReadsUpdates → (platform : Platform) (outs : List OutRecord) (items : List FeedRecord) → AllByRecursion HasOctets items → Kept platform outs
-  → Kept (platform_after platform items) (outs ++ all_output platform items)
+    → Kept (platform_after platform items) (outs ++ all_output platform items)
 unfolding platform_after all_output
 kept-run codec reads platform outs [] small h = rw (append-nil outs) h
 kept-run codec reads platform outs (item ∷ items) small h =
     rw (← append_assoc outs (output platform item) (all_output (step platform item) items))
-      (kept-run codec reads (step platform item) (outs ++ output platform item) items small.1 (kept-step codec reads platform outs item small.0 h))
+    (kept-run codec reads (step platform item) (outs ++ output platform item) items small.1 (kept-step codec reads platform outs item small.0 h))
 
 -- ---- the roster stays
 
@@ -436,12 +440,12 @@ step-roster platform item =
     elim (cases_Bool (eqb item.kind READY)) [
       | inl e ↦ rw e (seated-roster platform item.source (slot_from 0 platform.roster.members (from_be_bytes w32 item.body)))
       | inr e ↦ elim (cases_Bool (eqb item.kind OCTETS)) [
-          | inl f ↦ rw (e, f) (heard-roster platform item.body (slot_on platform.connections item.source))
-          | inr f ↦ elim (cases_Bool (eqb item.kind DRAIN)) [
-              | inl g ↦ rw (e, f, g) refl
-              | inr g ↦ rw (e, f, g) refl
-            ]
+        | inl f ↦ rw (e, f) (heard-roster platform item.body (slot_on platform.connections item.source))
+        | inr f ↦ elim (cases_Bool (eqb item.kind DRAIN)) [
+          | inl g ↦ rw (e, f, g) refl
+          | inr g ↦ rw (e, f, g) refl
         ]
+      ]
     ]
 
 pub run-roster : (platform : Platform) (items : List FeedRecord) → (platform_after platform items).roster ≡ platform.roster

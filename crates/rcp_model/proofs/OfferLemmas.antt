@@ -15,14 +15,14 @@ use Rattle.rcp_model.specs.Control.{Domain, Announcements, announced_by, contend
 -- ---- an offer depends on the announcements of its prefix alone
 
 candidates_from-same : (domain : Domain) (a b : Announcements) (p : IpPrefix) (cost_to : ℕ → Option ℕ) (slot : ℕ) (members : List Member)
-  → ((slot : ℕ) → announced_by a slot p ≡ announced_by b slot p)
-  → candidates_from domain a p cost_to slot members ≡ candidates_from domain b p cost_to slot members
+    → ((slot : ℕ) → announced_by a slot p ≡ announced_by b slot p)
+    → candidates_from domain a p cost_to slot members ≡ candidates_from domain b p cost_to slot members
 candidates_from-same domain a b p cost_to slot [] h = refl
 candidates_from-same domain a b p cost_to slot (member ∷ members) h =
     rw (h slot, candidates_from-same domain a b p cost_to (suc slot) members h) refl
 
 candidates-same : (domain : Domain) (a b : Announcements) (edges : List Edge) (slot : ℕ) (p : IpPrefix)
-  → ((slot : ℕ) → announced_by a slot p ≡ announced_by b slot p) → candidates domain a edges slot p ≡ candidates domain b edges slot p
+    → ((slot : ℕ) → announced_by a slot p ≡ announced_by b slot p) → candidates domain a edges slot p ≡ candidates domain b edges slot p
 unfolding candidates
 candidates-same domain a b edges slot p h = candidates_from-same domain a b p (slot_cost edges domain.members slot) 0 domain.members h
 
@@ -31,7 +31,7 @@ unless_own-same slot f g None h = refl
 unless_own-same slot f g (Some e) h = rw (h e) refl
 
 pub offer-same : (domain : Domain) (a b : Announcements) (edges : List Edge) (slot : ℕ) (p : IpPrefix)
-  → ((slot : ℕ) → announced_by a slot p ≡ announced_by b slot p) → offer domain a edges slot p ≡ offer domain b edges slot p
+    → ((slot : ℕ) → announced_by a slot p ≡ announced_by b slot p) → offer domain a edges slot p ≡ offer domain b edges slot p
 unfolding offer choice_of
 offer-same domain a b edges slot p h =
     rw (candidates-same domain a b edges slot p h) (unless_own-same slot (λ e. announced_by a e p) (λ e. announced_by b e p) (choice slot (slot_cost edges domain.members slot) (candidates domain b edges slot p)) h)
@@ -39,7 +39,7 @@ offer-same domain a b edges slot p h =
 -- ---- where nothing is announced, nothing is offered
 
 candidates_from-none : (domain : Domain) (a : Announcements) (p : IpPrefix) (cost_to : ℕ → Option ℕ) (slot : ℕ) (members : List Member)
-  → ((slot : ℕ) → announced_by a slot p ≡ None) → candidates_from domain a p cost_to slot members ≡ []
+    → ((slot : ℕ) → announced_by a slot p ≡ None) → candidates_from domain a p cost_to slot members ≡ []
 candidates_from-none domain a p cost_to slot [] h = refl
 candidates_from-none domain a p cost_to slot (member ∷ members) h =
     rw (h slot) (candidates_from-none domain a p cost_to (suc slot) members h)
@@ -49,7 +49,7 @@ unfolding choice tied
 choice-none slot cost = refl
 
 pub offer-none : (domain : Domain) (a : Announcements) (edges : List Edge) (slot : ℕ) (p : IpPrefix)
-  → ((slot : ℕ) → announced_by a slot p ≡ None) → offer domain a edges slot p ≡ None
+    → ((slot : ℕ) → announced_by a slot p ≡ None) → offer domain a edges slot p ≡ None
 unfolding offer choice_of candidates
 offer-none domain a edges slot p h =
     rw (candidates_from-none domain a p (slot_cost edges domain.members slot) 0 domain.members h, choice-none slot (slot_cost edges domain.members slot)) refl
@@ -88,7 +88,7 @@ own-keeps Q slot (a ∷ list) h is =
     ]
 
 choice-keeps : (Q : ℕ → Type 0) (slot : ℕ) (cost : ℕ → Option ℕ) (list : List Contender) (e : ℕ)
-  → AllByRecursion (λ c. Q c.slot) list → choice slot cost list ≡ Some e → Q e
+    → AllByRecursion (λ c. Q c.slot) list → choice slot cost list ≡ Some e → Q e
 unfolding choice
 choice-keeps Q slot cost list e h is =
     let left = tied-keeps (λ c. Q c.slot) list h in
@@ -113,29 +113,31 @@ usable-fits as_number octets canonical_is usable =
     subst (λ (l : List ℕ). length l ≤ 4068) canonical_is fits
 
 contender-fits : (domain : Domain) (a : Announcements) (p : IpPrefix) (slot id : ℕ) (found : Option (List ℕ)) (cost_to : Option ℕ) (list : List Contender)
-  → announced_by a slot p ≡ found
-  → ((octets : List ℕ) → announced_by a slot p ≡ Some octets → canonical_octets (attributes_in octets) ≡ octets)
-  → AllByRecursion (λ c. Fits a p c.slot) list
-  → AllByRecursion (λ c. Fits a p c.slot) (cons_some (announcement_contender domain slot id found cost_to) list)
+    → announced_by a slot p ≡ found
+    → ((octets : List ℕ) → announced_by a slot p ≡ Some octets → canonical_octets (attributes_in octets) ≡ octets)
+    → AllByRecursion (λ c. Fits a p c.slot) list
+    → AllByRecursion (λ c. Fits a p c.slot) (cons_some (announcement_contender domain slot id found cost_to) list)
 contender-fits domain a p slot id None cost_to list is canonical_is h = h
 contender-fits domain a p slot id (Some octets) None list is canonical_is h = h
 contender-fits domain a p slot id (Some octets) (Some reached) list is canonical_is h =
     elim (cases_Bool (is_usable (route_in w16 domain.as_number octets))) [
       | inl u ↦ rw u (
-          (λ other other_is.
+        (λ other other_is.
             let same : Some octets ≡ Some other = sym is ∙ other_is in
             let octets_are : octets ≡ other = cc in
-            subst (λ (l : List ℕ). length l ≤ 4068) octets_are (usable-fits domain.as_number octets (canonical_is octets is) u)), h)
+            subst (λ (l : List ℕ). length l ≤ 4068) octets_are (usable-fits domain.as_number octets (canonical_is octets is) u)),
+        h,
+      )
       | inr u ↦ rw u h
     ]
 
 candidates_from-fit : (domain : Domain) (a : Announcements) (p : IpPrefix) (cost_to : ℕ → Option ℕ) (slot : ℕ) (members : List Member)
-  → ((slot : ℕ) (octets : List ℕ) → announced_by a slot p ≡ Some octets → canonical_octets (attributes_in octets) ≡ octets)
-  → AllByRecursion (λ c. Fits a p c.slot) (candidates_from domain a p cost_to slot members)
+    → ((slot : ℕ) (octets : List ℕ) → announced_by a slot p ≡ Some octets → canonical_octets (attributes_in octets) ≡ octets)
+    → AllByRecursion (λ c. Fits a p c.slot) (candidates_from domain a p cost_to slot members)
 candidates_from-fit domain a p cost_to slot [] canonical_is = tt
 candidates_from-fit domain a p cost_to slot (member ∷ members) canonical_is =
     contender-fits domain a p slot member.bgp_id (announced_by a slot p) (cost_to slot) _ refl (canonical_is slot)
-      (candidates_from-fit domain a p cost_to (suc slot) members canonical_is)
+    (candidates_from-fit domain a p cost_to (suc slot) members canonical_is)
 
 unless_own-some : (slot : ℕ) (f : ℕ → Option (List ℕ)) (chosen : Option ℕ) (octets : List ℕ) → unless_own slot f chosen ≡ Some octets → (e : ℕ) × (chosen ≡ Some e) × (f e ≡ Some octets)
 unless_own-some slot f None octets is = absurd cc
@@ -146,8 +148,8 @@ unless_own-some slot f (Some e) octets is =
     ]
 
 pub offer-fits : (domain : Domain) (a : Announcements) (edges : List Edge) (slot : ℕ) (p : IpPrefix) (octets : List ℕ)
-  → ((slot : ℕ) (octets : List ℕ) → announced_by a slot p ≡ Some octets → canonical_octets (attributes_in octets) ≡ octets)
-  → offer domain a edges slot p ≡ Some octets → length octets ≤ 4068
+    → ((slot : ℕ) (octets : List ℕ) → announced_by a slot p ≡ Some octets → canonical_octets (attributes_in octets) ≡ octets)
+    → offer domain a edges slot p ≡ Some octets → length octets ≤ 4068
 unfolding offer choice_of candidates
 offer-fits domain a edges slot p octets canonical_is is =
     let costs = slot_cost edges domain.members slot in

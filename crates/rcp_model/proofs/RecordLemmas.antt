@@ -137,11 +137,14 @@ unread-refused octets nine refused =
           let kind : get_or (take n octets) 0 0 ≡ get_or octets 0 0 = get_or-take n octets 0 0 (omega arith) in
           let source : take 4 (drop 1 (take n octets)) ≡ take 4 (drop 1 octets) = four n octets (omega arith) in
           let size : length (drop 9 (take n octets)) ≡ body_length octets = omega (arith, length-drop 9 (take n octets), length-take n octets) in
-          inr (item, map record_of (cut record_size (drop n octets)).0,
+          inr (
+            item,
+            map record_of (cut record_size (drop n octets)).0,
             ap (λ (r : List (List ℕ) × List ℕ). map record_of r.0) front,
-            rw (kind, source, size) refused)
+            rw (kind, source, size) refused,
+          )
     ] where
-  four : (n : ℕ) (octets : List ℕ) → 9 ≤ n → take 4 (drop 1 (take n octets)) ≡ take 4 (drop 1 octets)
-  four n octets le =
-      let split : n ≡ 1 + (n - 1) = omega arith in
-      ap (λ (m : ℕ). take 4 (drop 1 (take m octets))) split ∙ ap (take 4) (drop-take 1 (n - 1) octets) ∙ take-less 4 (n - 1) (drop 1 octets) (omega arith)
+      four : (n : ℕ) (octets : List ℕ) → 9 ≤ n → take 4 (drop 1 (take n octets)) ≡ take 4 (drop 1 octets)
+      four n octets le =
+          let split : n ≡ 1 + (n - 1) = omega arith in
+          ap (λ (m : ℕ). take 4 (drop 1 (take m octets))) split ∙ ap (take 4) (drop-take 1 (n - 1) octets) ∙ take-less 4 (n - 1) (drop 1 octets) (omega arith)

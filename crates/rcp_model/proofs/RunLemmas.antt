@@ -24,7 +24,7 @@ use Rattle.rcp_model.proofs.UpdateLemmas.{after_messages-append}
 pub record CellUpdates : Type 0 where
   pub whole : (p : IpPrefix) (value : Option (List ℕ)) → IsPrefix p → ((octets : List ℕ) → value ≡ Some octets → length octets ≤ 4068) → IsMessage (cell_update p value)
   pub effect : (p : IpPrefix) (value : Option (List ℕ)) → IsPrefix p → ((octets : List ℕ) → value ≡ Some octets → length octets ≤ 4068)
-    → (table : Table) (q : IpPrefix) → get_at same_prefix q (after_message (cell_update p value) table) ≡ cond (same_prefix q p) value (get_at same_prefix q table)
+      → (table : Table) (q : IpPrefix) → get_at same_prefix q (after_message (cell_update p value) table) ≡ cond (same_prefix q p) value (get_at same_prefix q table)
   pub read : (messages : List (List ℕ)) → AllByRecursion IsMessage messages → messages_in (concat messages) ≡ messages
 
 -- ---- octets that replay to a table
@@ -75,8 +75,8 @@ cells-whole codec (p ∷ ps) before now h =
 
 -- At a prefix that a table has as it is now, or as it was before where the prefix is still to come, the messages leave it as it is now.
 pub cells-effect : CellUpdates → (ps : List IpPrefix) (before now : Option Table) (table : Table) (q : IpPrefix) → AllByRecursion (FitsAt now) ps
-  → ((get_at same_prefix q table ≡ cell_of now q) ⊎ ((get_at same_prefix q table ≡ cell_of before q) × (is_among ps q ≡ true)))
-  → get_at same_prefix q (after_messages (changed_cells ps before now) table) ≡ cell_of now q
+    → ((get_at same_prefix q table ≡ cell_of now q) ⊎ ((get_at same_prefix q table ≡ cell_of before q) × (is_among ps q ≡ true)))
+    → get_at same_prefix q (after_messages (changed_cells ps before now) table) ≡ cell_of now q
 unfolding after_messages FitsAt
 cells-effect codec [] before now table q fit (inl h) = h
 cells-effect codec [] before now table q fit (inr h) = absurd (both_ways false refl h.1)
@@ -86,24 +86,24 @@ cells-effect codec (p ∷ ps) before now table q fit h =
           elim h [
             | inl n ↦ inl n
             | inr b ↦ elim (or_cases (same_prefix q p) (is_among ps q) b.1) [
-                | inl s ↦ inl (b.0 ∙ ap (cell_of before) (same_prefix-is q p s) ∙ same_octets-is (cell_of before p) (cell_of now p) e ∙ ap (cell_of now) (sym (same_prefix-is q p s)))
-                | inr s ↦ inr (b.0, s)
-              ]
+              | inl s ↦ inl (b.0 ∙ ap (cell_of before) (same_prefix-is q p s) ∙ same_octets-is (cell_of before p) (cell_of now p) e ∙ ap (cell_of now) (sym (same_prefix-is q p s)))
+              | inr s ↦ inr (b.0, s)
+            ]
           ]))
       | inr e ↦
           let effect : get_at same_prefix q (after_message (cell_update p (cell_of now p)) table) ≡ cond (same_prefix q p) (cell_of now p) (get_at same_prefix q table)
-              = codec.effect p (cell_of now p) fit.0.0 fit.0.1 table q in
+          = codec.effect p (cell_of now p) fit.0.0 fit.0.1 table q in
           rw e (cells-effect codec ps before now (after_message (cell_update p (cell_of now p)) table) q fit.1 (
-            elim (cases_Bool (same_prefix q p)) [
-              | inl s ↦ inl (effect ∙ rw s (ap (cell_of now) (sym (same_prefix-is q p s))))
-              | inr s ↦ elim h [
-                  | inl n ↦ inl (effect ∙ rw s n)
-                  | inr b ↦ elim (or_cases (same_prefix q p) (is_among ps q) b.1) [
-                      | inl t ↦ absurd (both_ways (same_prefix q p) s t)
-                      | inr t ↦ inr (effect ∙ rw s b.0, t)
-                    ]
-                ]
-            ]))
+          elim (cases_Bool (same_prefix q p)) [
+            | inl s ↦ inl (effect ∙ rw s (ap (cell_of now) (sym (same_prefix-is q p s))))
+            | inr s ↦ elim h [
+              | inl n ↦ inl (effect ∙ rw s n)
+              | inr b ↦ elim (or_cases (same_prefix q p) (is_among ps q) b.1) [
+                | inl t ↦ absurd (both_ways (same_prefix q p) s t)
+                | inr t ↦ inr (effect ∙ rw s b.0, t)
+              ]
+            ]
+          ]))
     ]
 
 -- ---- work on a list of prefixes
@@ -113,7 +113,7 @@ pub record Worked (domain : Domain) (ps : List IpPrefix) (server now : Server) :
   pub announcements : now.announcements ≡ server.announcements
   pub edges : now.edges ≡ server.edges
   pub tables : (slot : ℕ) (table : Table) → table_of server slot ≡ Some table
-    → (new : Table) × (table_of now slot ≡ Some new) × ((q : IpPrefix) → get_at same_prefix q new ≡ cond (is_among ps q) (offer domain server.announcements server.edges slot q) (get_at same_prefix q table))
+      → (new : Table) × (table_of now slot ≡ Some new) × ((q : IpPrefix) → get_at same_prefix q new ≡ cond (is_among ps q) (offer domain server.announcements server.edges slot q) (get_at same_prefix q table))
 
 either_way : (b : Bool) (x y : Option (List ℕ)) → x ≡ cond (b || true) x y
 either_way true x y = refl
@@ -129,16 +129,19 @@ worked-all domain (p ∷ ps) server =
       announcements = rest.announcements;
       edges = rest.edges;
       tables = λ slot table is.
-        let given = set_at same_prefix p (offer domain server.announcements server.edges slot p) table in
-        let more = rest.tables slot given (worked-table domain server.announcements server.edges p slot server.tables table is) in
-        (more.0, more.1, λ q. more.2 q ∙
-          elim (cases_Bool (is_among ps q)) [
-            | inl e ↦ rw e (either_way (same_prefix q p) (offer domain server.announcements server.edges slot q) (get_at same_prefix q table))
-            | inr e ↦ rw e (
-                elim (cases_Bool (same_prefix q p)) [
-                  | inl s ↦ let k : q ≡ p = same_prefix-is q p s in
-                      rw (s, k) (get_at-set_at_same same_prefix prefix_test p (offer domain server.announcements server.edges slot p) table)
-                  | inr s ↦ rw s (get_at-set_at_other same_prefix prefix_test p q (offer domain server.announcements server.edges slot p) table s (same_prefix-other q p s))
-                ])
-          ]);
+          let given = set_at same_prefix p (offer domain server.announcements server.edges slot p) table in
+          let more = rest.tables slot given (worked-table domain server.announcements server.edges p slot server.tables table is) in (
+            more.0,
+            more.1,
+            λ q. more.2 q ∙
+                elim (cases_Bool (is_among ps q)) [
+                  | inl e ↦ rw e (either_way (same_prefix q p) (offer domain server.announcements server.edges slot q) (get_at same_prefix q table))
+                  | inr e ↦ rw e (
+                      elim (cases_Bool (same_prefix q p)) [
+                        | inl s ↦ let k : q ≡ p = same_prefix-is q p s in
+                            rw (s, k) (get_at-set_at_same same_prefix prefix_test p (offer domain server.announcements server.edges slot p) table)
+                        | inr s ↦ rw s (get_at-set_at_other same_prefix prefix_test p q (offer domain server.announcements server.edges slot p) table s (same_prefix-other q p s))
+                      ])
+                ],
+          );
     }

@@ -39,11 +39,11 @@ number-other m n h =
 
 -- another prefix keeps its announcements
 announced-other : (a : Announcements) (slot e : ℕ) (p q : IpPrefix) (octets : Option (List ℕ)) → same_prefix p q ≡ false
-  → announced_by (set_at same_place (slot, p) octets a) e q ≡ announced_by a e q
+    → announced_by (set_at same_place (slot, p) octets a) e q ≡ announced_by a e q
 announced-other a slot e p q octets h =
     get_at-set_at_other same_place place_test (slot, p) (e, q) octets a
-      (and_right (eqb e slot) (same_prefix q p) (same_prefix-other p q h))
-      (and_right (eqb slot e) (same_prefix p q) h)
+    (and_right (eqb e slot) (same_prefix q p) (same_prefix-other p q h))
+    (and_right (eqb slot e) (same_prefix p q) h)
 
 -- what is announced is among the announced prefixes
 announced-among : (a : Announcements) (e : ℕ) (p : IpPrefix) (octets : List ℕ) → announced_by a e p ≡ Some octets → is_among (announced_prefixes a) p ≡ true
@@ -68,7 +68,7 @@ pub record AreCanonical (a : Announcements) : Type 0 where
 
 pub record Settled (domain : Domain) (server : Server) : Type 0 where
   pub offers : (slot : ℕ) (table : Table) (p : IpPrefix) → table_of server slot ≡ Some table → is_touched server p ≡ false
-    → get_at same_prefix p table ≡ offer domain server.announcements server.edges slot p
+      → get_at same_prefix p table ≡ offer domain server.announcements server.edges slot p
   pub canonical : AreCanonical server.announcements
   pub touched : AllByRecursion IsPrefix server.touched
   pub announced : AllByRecursion IsPrefix (announced_prefixes server.announcements)
@@ -128,17 +128,17 @@ pub settled-up : (domain : Domain) (slot : ℕ) (server : Server) → Settled do
 unfolding after
 settled-up domain slot server h = record {
   offers = λ s table p is untouched.
-    let quiet : (is_among (announced_prefixes server.announcements) p || is_among server.touched p) ≡ false = sym (is_among-include_all (announced_prefixes server.announcements) server.touched p) ∙ untouched in
-    let parts = or_parts _ _ quiet in
-    elim (cases_Bool (eqb s slot)) [
-      | inl e ↦
-          let s_is : s ≡ slot = eqb-true s slot e in
-          let given : Some [] ≡ Some table = sym (get_at-put_at_same same_number number_test slot [] server.tables) ∙ ap (λ (k : ℕ). get_at same_number k (put_at same_number slot [] server.tables)) (sym s_is) ∙ is in
-          let empty : table ≡ [] = empty_table table given in
-          rw empty (sym (offer-none domain server.announcements server.edges s p (λ e. unannounced server.announcements e p parts.0)))
-      | inr e ↦
-          h.offers s table p (sym (get_at-put_at_other same_number number_test slot s [] server.tables e) ∙ is) parts.1
-    ];
+      let quiet : (is_among (announced_prefixes server.announcements) p || is_among server.touched p) ≡ false = sym (is_among-include_all (announced_prefixes server.announcements) server.touched p) ∙ untouched in
+      let parts = or_parts _ _ quiet in
+      elim (cases_Bool (eqb s slot)) [
+        | inl e ↦
+            let s_is : s ≡ slot = eqb-true s slot e in
+            let given : Some [] ≡ Some table = sym (get_at-put_at_same same_number number_test slot [] server.tables) ∙ ap (λ (k : ℕ). get_at same_number k (put_at same_number slot [] server.tables)) (sym s_is) ∙ is in
+            let empty : table ≡ [] = empty_table table given in
+            rw empty (sym (offer-none domain server.announcements server.edges s p (λ e. unannounced server.announcements e p parts.0)))
+        | inr e ↦
+            h.offers s table p (sym (get_at-put_at_other same_number number_test slot s [] server.tables e) ∙ is) parts.1
+      ];
   canonical = h.canonical;
   touched = include_all-form (announced_prefixes server.announcements) server.touched h.announced h.touched;
   announced = h.announced;
@@ -155,36 +155,36 @@ place-other a b h =
     ]
 
 canonical-set : (a : Announcements) (slot : ℕ) (p : IpPrefix) (octets : Option (List ℕ)) → AreCanonical a
-  → ((o : List ℕ) → octets ≡ Some o → canonical_octets (attributes_in o) ≡ o) → AreCanonical (set_at same_place (slot, p) octets a)
+    → ((o : List ℕ) → octets ≡ Some o → canonical_octets (attributes_in o) ≡ o) → AreCanonical (set_at same_place (slot, p) octets a)
 canonical-set a slot p octets h good = record {
   each = λ s q o is.
-    elim (cases_Bool (same_place (s, q) (slot, p))) [
-      | inl e ↦
-          let there : (s, q) ≡ (slot, p) = same_place-is (s, q) (slot, p) e in
-          good o (sym (get_at-set_at_same same_place place_test (slot, p) octets a) ∙ ap (λ (k : Place). get_at same_place k (set_at same_place (slot, p) octets a)) (sym there) ∙ is)
-      | inr e ↦ h.each s q o (sym (get_at-set_at_other same_place place_test (slot, p) (s, q) octets a e (place-other (s, q) (slot, p) e)) ∙ is)
-    ];
+      elim (cases_Bool (same_place (s, q) (slot, p))) [
+        | inl e ↦
+            let there : (s, q) ≡ (slot, p) = same_place-is (s, q) (slot, p) e in
+            good o (sym (get_at-set_at_same same_place place_test (slot, p) octets a) ∙ ap (λ (k : Place). get_at same_place k (set_at same_place (slot, p) octets a)) (sym there) ∙ is)
+        | inr e ↦ h.each s q o (sym (get_at-set_at_other same_place place_test (slot, p) (s, q) octets a e (place-other (s, q) (slot, p) e)) ∙ is)
+      ];
 }
 
 changed : (slot : ℕ) (p : IpPrefix) (octets : Option (List ℕ)) (server : Server) → Server
 changed slot p octets server = record server { announcements = set_at same_place (slot, p) octets server.announcements; touched = include p server.touched }
 
 settled-changed : (domain : Domain) (slot : ℕ) (p : IpPrefix) (octets : Option (List ℕ)) (server : Server) → IsPrefix p
-  → ((o : List ℕ) → octets ≡ Some o → canonical_octets (attributes_in o) ≡ o) → Settled domain server → Settled domain (changed slot p octets server)
+    → ((o : List ℕ) → octets ≡ Some o → canonical_octets (attributes_in o) ≡ o) → Settled domain server → Settled domain (changed slot p octets server)
 unfolding changed
 settled-changed domain slot p octets server form good h = record {
   offers = λ s table q is untouched.
-    let parts = or_parts (same_prefix q p) (is_among server.touched q) (sym (is_among-include p q server.touched) ∙ untouched) in
-    h.offers s table q is parts.1
+      let parts = or_parts (same_prefix q p) (is_among server.touched q) (sym (is_among-include p q server.touched) ∙ untouched) in
+      h.offers s table q is parts.1
       ∙ offer-same domain server.announcements (set_at same_place (slot, p) octets server.announcements) server.edges s q
-          (λ e. sym (announced-other server.announcements slot e p q octets (same_prefix-other q p parts.0)));
+      (λ e. sym (announced-other server.announcements slot e p q octets (same_prefix-other q p parts.0)));
   canonical = canonical-set server.announcements slot p octets h.canonical good;
   touched = include-form p server.touched form h.touched;
   announced = set_at-form (slot, p) octets server.announcements form h.announced;
 }
 
 pub settled-change : (domain : Domain) (slot : ℕ) (p : IpPrefix) (octets : Option (List ℕ)) (server : Server) → IsPrefix p
-  → ((o : List ℕ) → octets ≡ Some o → canonical_octets (attributes_in o) ≡ o) → Settled domain server → Settled domain (after domain (Change slot p octets) server)
+    → ((o : List ℕ) → octets ≡ Some o → canonical_octets (attributes_in o) ≡ o) → Settled domain server → Settled domain (after domain (Change slot p octets) server)
 unfolding after changed
 settled-change domain slot p octets server form good h =
     elim (cases_Bool (is_connected server slot && not (same_octets (announced_by server.announcements slot p) octets))) [
@@ -200,12 +200,12 @@ not_among-filter p q [] h = inr refl
 not_among-filter p q (r ∷ ps) h =
     elim (cases_Bool (same_prefix p r)) [
       | inl e ↦ elim (not_among-filter p q ps (rw e at h)) [
-          | inl s ↦ inl s
-          | inr n ↦ elim (cases_Bool (same_prefix q r)) [
-              | inl t ↦ let k : q ≡ r = same_prefix-is q r t in inl (rw k e)
-              | inr t ↦ inr (or_from _ _ t n)
-            ]
+        | inl s ↦ inl s
+        | inr n ↦ elim (cases_Bool (same_prefix q r)) [
+          | inl t ↦ let k : q ≡ r = same_prefix-is q r t in inl (rw k e)
+          | inr t ↦ inr (or_from _ _ t n)
         ]
+      ]
       | inr e ↦
           let parts = or_parts (same_prefix q r) (is_among (filter (λ r. not (same_prefix p r)) ps) q) (rw e at h) in
           elim (not_among-filter p q ps parts.1) [
@@ -216,7 +216,7 @@ not_among-filter p q (r ∷ ps) h =
 
 -- the table of a slot after work on a prefix
 pub worked-table : (domain : Domain) (a : Announcements) (edges : List Edge) (p : IpPrefix) (slot : ℕ) (tables : List (ℕ × Table)) (table : Table)
-  → get_at same_number slot tables ≡ Some table → get_at same_number slot (worked domain a edges p tables) ≡ Some (set_at same_prefix p (offer domain a edges slot p) table)
+    → get_at same_number slot tables ≡ Some table → get_at same_number slot (worked domain a edges p tables) ≡ Some (set_at same_prefix p (offer domain a edges slot p) table)
 worked-table domain a edges p slot [] table is = absurd cc
 worked-table domain a edges p slot (entry ∷ tables) table is =
     elim (cases_Bool (eqb slot entry.0)) [
@@ -229,7 +229,7 @@ worked-table domain a edges p slot (entry ∷ tables) table is =
     ]
 
 worked-none : (domain : Domain) (a : Announcements) (edges : List Edge) (p : IpPrefix) (slot : ℕ) (tables : List (ℕ × Table))
-  → get_at same_number slot tables ≡ None → get_at same_number slot (worked domain a edges p tables) ≡ None
+    → get_at same_number slot tables ≡ None → get_at same_number slot (worked domain a edges p tables) ≡ None
 worked-none domain a edges p slot [] is = refl
 worked-none domain a edges p slot (entry ∷ tables) is =
     elim (cases_Bool (eqb slot entry.0)) [
@@ -239,11 +239,11 @@ worked-none domain a edges p slot (entry ∷ tables) is =
 
 -- the table that a slot had before a prefix was worked
 worked-from : (domain : Domain) (a : Announcements) (edges : List Edge) (p : IpPrefix) (slot : ℕ) (tables : List (ℕ × Table)) (table : Table)
-  → get_at same_number slot (worked domain a edges p tables) ≡ Some table
-  → (old : Table) × (get_at same_number slot tables ≡ Some old) × (table ≡ set_at same_prefix p (offer domain a edges slot p) old)
+    → get_at same_number slot (worked domain a edges p tables) ≡ Some table
+    → (old : Table) × (get_at same_number slot tables ≡ Some old) × (table ≡ set_at same_prefix p (offer domain a edges slot p) old)
 worked-from domain a edges p slot tables table is = by_cases (get_at same_number slot tables) refl where
   by_cases : (found : Option Table) → get_at same_number slot tables ≡ found
-    → (old : Table) × (get_at same_number slot tables ≡ Some old) × (table ≡ set_at same_prefix p (offer domain a edges slot p) old)
+      → (old : Table) × (get_at same_number slot tables ≡ Some old) × (table ≡ set_at same_prefix p (offer domain a edges slot p) old)
   by_cases None found = let no : None ≡ Some table = sym (worked-none domain a edges p slot tables found) ∙ is in absurd cc
   by_cases (Some old) found =
       let same : Some (set_at same_prefix p (offer domain a edges slot p) old) ≡ Some table = sym (worked-table domain a edges p slot tables old found) ∙ is in
@@ -253,8 +253,8 @@ pub settled-work : (domain : Domain) (p : IpPrefix) (server : Server) → Settle
 unfolding after
 settled-work domain p server h = record {
   offers = λ s table q is untouched.
-    let before = worked-from domain server.announcements server.edges p s server.tables table is in
-    rw before.2 (
+      let before = worked-from domain server.announcements server.edges p s server.tables table is in
+      rw before.2 (
       elim (cases_Bool (same_prefix p q)) [
         | inl e ↦ let k : p ≡ q = same_prefix-is p q e in
             rw (← k) (get_at-set_at_same same_prefix prefix_test p (offer domain server.announcements server.edges s p) before.0)

@@ -81,8 +81,8 @@ value_length octets = if is_extended (slice_index octets 0) then from_be_bytes w
 unfoldable pub attribute_size : List ℕ → Option ℕ
 attribute_size octets =
     if nat_le (value_place octets) (length octets) && nat_le (value_place octets + value_length octets) (length octets)
-      then Some (value_place octets + value_length octets)
-      else None
+    then Some (value_place octets + value_length octets)
+    else None
 
 -- the attribute that these octets are
 abbrev pub attribute_of : List ℕ → Attribute
@@ -112,8 +112,8 @@ pub record Segment : Type 0 where
 unfoldable pub segment_size : Width → List ℕ → Option ℕ
 segment_size width octets =
     if nat_le 2 (length octets) && nat_le (2 + slice_index octets 1 * byte_len width) (length octets)
-      then Some (2 + slice_index octets 1 * byte_len width)
-      else None
+    then Some (2 + slice_index octets 1 * byte_len width)
+    else None
 
 -- the length of the number in front
 unfoldable pub number_size : Width → List ℕ → Option ℕ
@@ -163,12 +163,12 @@ unfoldable pub attribute_fault : Width → List ℕ → List ℕ → Option Faul
 attribute_fault width seen piece =
     let a = attribute_of piece in
     first_failing (
-      (list_any (λ kind. kind == a.kind) seen, fault 3 1 [])
-      ∷ (not (is_recognised a.kind) && not (is_optional a.flags), fault 3 2 piece)
-      ∷ (is_recognised a.kind && has_other_category a, fault 3 4 piece)
-      ∷ (is_recognised a.kind && has_other_length width a, fault 3 5 piece)
-      ∷ (is_recognised a.kind && has_faulty_value width a, value_fault a piece)
-      ∷ [])
+    (list_any (λ kind. kind == a.kind) seen, fault 3 1 [])
+    ∷ (not (is_recognised a.kind) && not (is_optional a.flags), fault 3 2 piece)
+    ∷ (is_recognised a.kind && has_other_category a, fault 3 4 piece)
+    ∷ (is_recognised a.kind && has_other_length width a, fault 3 5 piece)
+    ∷ (is_recognised a.kind && has_faulty_value width a, value_fault a piece)
+    ∷ [])
 
 abbrev pub or_else : Option FaultOf → Option FaultOf → Option FaultOf
 or_else None second = second
@@ -184,16 +184,16 @@ list_fault width seen (piece ∷ pieces) rest =
 abbrev pub missing_fault : List Attribute → Option FaultOf
 missing_fault attributes =
     first_failing (
-      (is_none (value_of ORIGIN attributes), fault 3 3 (ORIGIN ∷ []))
-      ∷ (is_none (value_of AS_PATH attributes), fault 3 3 (AS_PATH ∷ []))
-      ∷ (is_none (value_of NEXT_HOP attributes), fault 3 3 (NEXT_HOP ∷ []))
-      ∷ [])
+    (is_none (value_of ORIGIN attributes), fault 3 3 (ORIGIN ∷ []))
+    ∷ (is_none (value_of AS_PATH attributes), fault 3 3 (AS_PATH ∷ []))
+    ∷ (is_none (value_of NEXT_HOP attributes), fault 3 3 (NEXT_HOP ∷ []))
+    ∷ [])
 
 -- the first fault of the attributes of an UPDATE, with NLRI or without
 unfoldable pub attributes_fault : Width → Bool → List ℕ → Option FaultOf
 attributes_fault width nlri octets =
     or_else (list_fault width [] (cut attribute_size octets).0 (cut attribute_size octets).1)
-      (if nlri then missing_fault (attributes_in octets) else None)
+    (if nlri then missing_fault (attributes_in octets) else None)
 
 -- what a route needs (section 5): ORIGIN, AS_PATH and NEXT_HOP
 abbrev pub has_route : List Attribute → Bool
@@ -209,8 +209,8 @@ is_kept a = is_recognised a.kind || is_optional a.flags && is_transitive a.flags
 abbrev pub written_flags : Attribute → ℕ
 written_flags a =
     if is_recognised a.kind
-      then category a.kind + (if nat_le AGGREGATOR a.kind && is_partial a.flags then 32 else 0)
-      else 224
+    then category a.kind + (if nat_le AGGREGATOR a.kind && is_partial a.flags then 32 else 0)
+    else 224
 
 abbrev pub written : Attribute → Attribute
 written a = record a { flags = written_flags a }
@@ -239,8 +239,8 @@ canonical attributes = by_type (with_pref (map written (filter is_kept attribute
 unfoldable pub attribute_octets : Attribute → List ℕ
 attribute_octets a =
     if nat_le (length a.value) 255
-      then a.flags ∷ a.kind ∷ length a.value ∷ a.value
-      else (a.flags + 16) ∷ a.kind ∷ (to_be_bytes w16 (length a.value) ++ a.value)
+    then a.flags ∷ a.kind ∷ length a.value ∷ a.value
+    else (a.flags + 16) ∷ a.kind ∷ (to_be_bytes w16 (length a.value) ++ a.value)
 
 abbrev pub canonical_octets : List Attribute → List ℕ
 canonical_octets attributes = flat_map attribute_octets (canonical attributes)

@@ -98,7 +98,7 @@ abbrev pub candidates_from : Domain → Announcements → IpPrefix → (ℕ → 
 candidates_from domain announcements p cost_to slot [] = []
 candidates_from domain announcements p cost_to slot (member ∷ members) =
     cons_some (announcement_contender domain slot member.bgp_id (announced_by announcements slot p) (cost_to slot))
-      (candidates_from domain announcements p cost_to (suc slot) members)
+    (candidates_from domain announcements p cost_to (suc slot) members)
 
 -- the candidates of a slot at a prefix, in roster order
 unfoldable pub candidates : Domain → Announcements → List Edge → ℕ → IpPrefix → List Contender
@@ -172,11 +172,11 @@ after domain (Down slot) server = record server {
 }
 after domain (Change slot p octets) server =
     if is_connected server slot && not (same_octets (announced_by server.announcements slot p) octets)
-      then record server {
-        announcements = set_at same_place (slot, p) octets server.announcements;
-        touched = include p server.touched;
-      }
-      else server
+    then record server {
+      announcements = set_at same_place (slot, p) octets server.announcements;
+      touched = include p server.touched;
+    }
+    else server
 after domain (Links edges) server = record server {
   touched = include_all (announced_prefixes (moved domain server.edges edges server.announcements)) server.touched;
   edges = edges;

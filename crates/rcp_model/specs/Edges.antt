@@ -17,8 +17,8 @@ abbrev pub metric_to : ℕ → List RouterLink → Option ℕ
 metric_to router [] = None
 metric_to router (link ∷ links) =
     if link.kind == POINT_TO_POINT && link.id == router
-      then Some (least link.metric (metric_to router links))
-      else metric_to router links
+    then Some (least link.metric (metric_to router links))
+    else metric_to router links
 
 -- the edge from one router to another where each lists the other
 abbrev pub two_way : Kept → Kept → List Edge

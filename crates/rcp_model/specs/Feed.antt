@@ -105,26 +105,26 @@ has_identifier members id = list_any (λ member. member.bgp_id == id) members
 abbrev pub add_router : RosterOf → ℕ → ℕ → Option RosterOf
 add_router roster router id =
     if length roster.links == 0 && not (has_router roster.members router) && not (has_identifier roster.members id) && not (id == roster.id) && nat_lt (length roster.members) 512
-      then Some (record roster { members = roster.members ++ record { router = router; bgp_id = id } ∷ [] })
-      else None
+    then Some (record roster { members = roster.members ++ record { router = router; bgp_id = id } ∷ [] })
+    else None
 
 -- a link of two routers, in both directions
 abbrev pub add_link : RosterOf → ℕ → ℕ → ℕ → Option RosterOf
 add_link roster a b cost =
     if has_router roster.members a && has_router roster.members b && not (a == b)
-      then Some (record roster { links = roster.links ++ record { from = a; to = b; cost = cost } ∷ record { from = b; to = a; cost = cost } ∷ [] })
-      else None
+    then Some (record roster { links = roster.links ++ record { from = a; to = b; cost = cost } ∷ record { from = b; to = a; cost = cost } ∷ [] })
+    else None
 
 -- the roster with one line more: a router or a link
 abbrev pub with_line : RosterOf → List (List ℕ) → Option RosterOf
 with_line roster (word ∷ a ∷ b ∷ []) =
     if bytes_eq word (codes "router")
-      then option_and_then (λ router. option_and_then (add_router roster router) (name_value b)) (name_value a)
-      else None
+    then option_and_then (λ router. option_and_then (add_router roster router) (name_value b)) (name_value a)
+    else None
 with_line roster (word ∷ a ∷ b ∷ c ∷ []) =
     if bytes_eq word (codes "link")
-      then option_and_then (λ u. option_and_then (λ v. option_and_then (add_link roster u v) (within 1 65535 (number_of c))) (address_of b)) (address_of a)
-      else None
+    then option_and_then (λ u. option_and_then (λ v. option_and_then (add_link roster u v) (within 1 65535 (number_of c))) (address_of b)) (address_of a)
+    else None
 with_line roster words = None
 
 abbrev pub with_lines : RosterOf → List (List (List ℕ)) → Option RosterOf

@@ -97,8 +97,8 @@ abbrev pub changed_cells : List IpPrefix → Option Table → Option Table → L
 changed_cells [] before now = []
 changed_cells (p ∷ prefixes) before now =
     if same_octets (cell_of before p) (cell_of now p)
-      then changed_cells prefixes before now
-      else cell_update p (cell_of now p) ∷ changed_cells prefixes before now
+    then changed_cells prefixes before now
+    else cell_update p (cell_of now p) ∷ changed_cells prefixes before now
 
 abbrev pub messages_to : ℕ → List (List ℕ) → List OutRecord
 messages_to number messages = map (λ message. record { kind = OCTETS; connection = number; body = message }) messages
@@ -132,18 +132,18 @@ abbrev pub seated : Platform → ℕ → Option ℕ → Platform
 seated platform number None = platform
 seated platform number (Some slot) =
     if is_new_number platform.connections number && not (is_connected platform.server slot)
-      then record platform {
-        connections = platform.connections ++ record { number = number; phase = Established slot } ∷ [];
-        server = after_all (domain_of platform.roster) (Up slot ∷ []) platform.server;
-      }
-      else platform
+    then record platform {
+      connections = platform.connections ++ record { number = number; phase = Established slot } ∷ [];
+      server = after_all (domain_of platform.roster) (Up slot ∷ []) platform.server;
+    }
+    else platform
 
 abbrev pub heard : Platform → List ℕ → Option ℕ → Platform
 heard platform octets None = platform
 heard platform octets (Some slot) =
     if is_faultless_update octets
-      then record platform { server = after_all (domain_of platform.roster) (update_events slot (changes_of (drop 19 octets))) platform.server }
-      else platform
+    then record platform { server = after_all (domain_of platform.roster) (update_events slot (changes_of (drop 19 octets))) platform.server }
+    else platform
 
 -- every touched prefix is worked
 abbrev pub drained_server : Platform → Server
@@ -165,8 +165,8 @@ step platform item =
 unfoldable pub output : Platform → FeedRecord → List OutRecord
 output platform item =
     if item.kind == DRAIN
-      then drain_messages platform ++ summary (drained_server platform) (drain platform).updates ∷ []
-      else []
+    then drain_messages platform ++ summary (drained_server platform) (drain platform).updates ∷ []
+    else []
 
 -- ---- runs
 
@@ -193,4 +193,4 @@ Headline roster items =
     (number slot : ℕ) (p : IpPrefix) → slot_on platform.connections number ≡ Some slot
     → is_touched platform.server p ≡ false
     → cell_of (Some (replay (sent_to number outs))) p
-      ≡ offer (domain_of roster) platform.server.announcements platform.server.edges slot p
+    ≡ offer (domain_of roster) platform.server.announcements platform.server.edges slot p

@@ -49,11 +49,11 @@ is_outside low high n = nat_lt n low || nat_lt high n
 unfoldable pub header_fault : List ℕ → Option FaultOf
 header_fault octets =
     first_failing (
-      (not (has_marker octets), fault 1 1 [])
-      ∷ (is_outside 19 4096 (length_field octets), fault 1 2 (length_octets octets))
-      ∷ (is_outside 1 4 (type_field octets), fault 1 3 (type_field octets ∷ []))
-      ∷ (is_outside (least_length (type_field octets)) (greatest_length (type_field octets)) (length_field octets), fault 1 2 (length_octets octets))
-      ∷ [])
+    (not (has_marker octets), fault 1 1 [])
+    ∷ (is_outside 19 4096 (length_field octets), fault 1 2 (length_octets octets))
+    ∷ (is_outside 1 4 (type_field octets), fault 1 3 (type_field octets ∷ []))
+    ∷ (is_outside (least_length (type_field octets)) (greatest_length (type_field octets)) (length_field octets), fault 1 2 (length_octets octets))
+    ∷ [])
 
 -- ---- whole messages
 
@@ -61,8 +61,8 @@ header_fault octets =
 unfoldable pub message_size : List ℕ → Option ℕ
 message_size octets =
     if nat_le 19 (length octets) && is_none (header_fault octets) && nat_le (length_field octets) (length octets)
-      then Some (length_field octets)
-      else None
+    then Some (length_field octets)
+    else None
 
 -- a whole message: a faultless header, and exactly the octets of its length
 pub record IsMessage (message : List ℕ) : Type 0 where

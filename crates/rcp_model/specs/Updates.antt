@@ -34,8 +34,8 @@ has_section octets = nat_le 2 (length octets) && nat_le (2 + leading_number octe
 unfoldable pub sections_of : List ℕ → Option Sections
 sections_of body =
     if has_section body && has_section (after_section body)
-      then Some (record { withdrawn = section body; attributes = section (after_section body); nlri = after_section (after_section body) })
-      else None
+    then Some (record { withdrawn = section body; attributes = section (after_section body); nlri = after_section (after_section body) })
+    else None
 
 -- ---- prefixes of a section
 
@@ -57,7 +57,7 @@ update_fault width body = elim (sections_of body) [
   | None ↦ Some (fault 3 1 [])
   | Some sections ↦
       or_else (attributes_fault width (not (length sections.nlri == 0)) sections.attributes)
-        (or_else (prefixes_fault sections.withdrawn) (prefixes_fault sections.nlri))
+      (or_else (prefixes_fault sections.withdrawn) (prefixes_fault sections.nlri))
 ]
 
 -- What the body of a faultless UPDATE changes, in order: first the withdrawn prefixes, without those that its NLRI announces, then the announced ones.
@@ -70,10 +70,10 @@ unfoldable pub changes_of : List ℕ → Changes
 changes_of body = elim (sections_of body) [
   | None ↦ record { withdrawn = []; announced = []; attributes = [] }
   | Some sections ↦ record {
-      withdrawn = filter (λ p. not (is_among (prefixes_in sections.nlri) p)) (prefixes_in sections.withdrawn);
-      announced = prefixes_in sections.nlri;
-      attributes = attributes_in sections.attributes;
-    }
+    withdrawn = filter (λ p. not (is_among (prefixes_in sections.nlri) p)) (prefixes_in sections.withdrawn);
+    announced = prefixes_in sections.nlri;
+    attributes = attributes_in sections.attributes;
+  }
 ]
 
 -- ---- writing
@@ -104,8 +104,8 @@ after_message message table = elim (sections_of (drop 19 message)) [
   | None ↦ table
   | Some sections ↦
       if type_field message == 2
-        then announce_all sections.attributes (prefixes_in sections.nlri) (withdraw_all (prefixes_in sections.withdrawn) table)
-        else table
+      then announce_all sections.attributes (prefixes_in sections.nlri) (withdraw_all (prefixes_in sections.withdrawn) table)
+      else table
 ]
 
 unfoldable pub after_messages : List (List ℕ) → Table → Table

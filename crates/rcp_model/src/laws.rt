@@ -1,10 +1,10 @@
 //! Laws of the definitions, each the contract of a function with an empty body.
 
-pub mod canonical_form;
-pub mod instances;
-pub mod reading;
 pub mod candidates;
+pub mod canonical_form;
 pub mod filters;
+pub mod instances;
 pub mod offers;
+pub mod reading;
 pub mod readings;
 pub mod walks;
