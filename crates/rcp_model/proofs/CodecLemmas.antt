@@ -1,17 +1,17 @@
 -- The codec's part of the headline: a written UPDATE for one cell is read again, and what is read of an UPDATE is in form.
-use Rattle.std.proofs.Common.{◌≡◌, ℕ, ◌+◌, ◌≤◌, ◌<◌, Bool, true, false, cond, not, ◌&&◌, ◌||◌, eqb, List, [], ◌∷◌, ◌++◌, length, map, take, drop, Option, Some, None, refl, sym, ap, subst, ◌∙◌, ◌⊎◌, inl, inr, arith}
+use Rattle.std.proofs.Common.{◌≡◌, ℕ, ◌≤◌, ◌<◌, Bool, true, cond, not, ◌&&◌, List, [], ◌∷◌, length, drop, Option, Some, None, refl, sym, ap, subst, ◌∙◌, inl, inr, arith}
 use Rattle.std.specs.Prelude.{filter, is_none}
 use Rattle.std.specs.List.{flat_map, concat, All, AllByRecursion}
 use Rattle.std.specs.Int.{w16, w32, to_be_bytes}
 use Rattle.std.proofs.lemmas.Bool.{cases_Bool, and_parts}
-use Rattle.std.proofs.lemmas.List.{append-nil, length-take, length-append}
+use Rattle.std.proofs.lemmas.List.{append-nil, length-take}
 use Rattle.std.proofs.lemmas.List.Elements.{All-take, All-drop}
 use Rattle.std.proofs.lemmas.Option.{cond_some}
 use Rattle.rcp_base.specs.IpPrefix.{IpPrefix, IsPrefix, prefix_octets, octets_for}
-use Rattle.rcp_model.specs.Maps.{get_at, put_at, same_prefix, is_among}
+use Rattle.rcp_model.specs.Maps.{get_at, same_prefix, is_among}
 use Rattle.rcp_model.specs.Messages.{FaultOf, IsMessage, messages_in}
-use Rattle.rcp_model.specs.Attributes.{attributes_in, attributes_fault, canonical_octets, or_else}
-use Rattle.rcp_model.specs.Updates.{Table, Sections, section, after_section, has_section, sections_of, prefixes_in, update_octets, update_fault, changes_of, after_message}
+use Rattle.rcp_model.specs.Attributes.{attributes_in, canonical_octets}
+use Rattle.rcp_model.specs.Updates.{Table, Sections, section, after_section, has_section, sections_of, prefixes_in, update_fault, changes_of, after_message}
 use Rattle.rcp_model.specs.Feed.{FeedRecord, RosterOf}
 use Rattle.rcp_model.specs.Meaning.{cell_update, is_faultless_update, Headline}
 use Rattle.rcp_model.proofs.MapLemmas.{get_at-put_at_same, get_at-put_at_other, get_at-without_passed, get_at-without_left, prefix_test, same_prefix-is, same_prefix-other}

@@ -1,24 +1,23 @@
 -- The headline: after each record the octets sent to each connection replay to its table, and tables are the offers where nothing is touched.
-use Rattle.std.proofs.Common.{◌≡◌, ℕ, suc, ◌+◌, ◌^◌, ◌≤◌, ◌<◌, Bool, true, false, cond, not, ◌&&◌, ◌||◌, eqb, ltb, List, [], ◌∷◌, ◌++◌, length, map, drop, Option, Some, None, refl, sym, ap, subst, ◌∙◌, ◌⊎◌, inl, inr, arith, append_assoc}
-use Rattle.std.specs.Prelude.{filter, is_some, is_none}
-use Rattle.std.specs.List.{list_any, list_all, concat, All, AllByRecursion}
-use Rattle.std.specs.Int.{w16, w32, from_be_bytes}
-use Rattle.std.proofs.lemmas.Bool.{cases_Bool, and_parts, and_from, and_left, and_right, or_cases, or_parts, or_from, eqb-true, eqb-false, eq-eqb, ne_eqb, ltb-true, not-true, both_ways}
+use Rattle.std.proofs.Common.{◌≡◌, ℕ, ◌≤◌, ◌<◌, true, false, cond, not, ◌&&◌, eqb, ltb, List, [], ◌∷◌, ◌++◌, length, map, drop, Option, Some, None, refl, sym, ap, subst, ◌∙◌, ◌⊎◌, inl, inr, arith, append_assoc}
+use Rattle.std.specs.Prelude.{is_some}
+use Rattle.std.specs.List.{list_all, concat, All, AllByRecursion}
+use Rattle.std.specs.Int.{w32, from_be_bytes}
+use Rattle.std.proofs.lemmas.Bool.{cases_Bool, and_parts, eqb-true, eq-eqb, ne_eqb, ltb-true, not-true}
 use Rattle.std.proofs.lemmas.List.{append-nil}
 use Rattle.std.proofs.lemmas.List.Folds.{concat-append}
 use Rattle.rcp_base.specs.IpPrefix.{IpPrefix, IsPrefix}
-use Rattle.rcp_base.specs.declared.names.Member.{Member}
 use Rattle.rcp_model.specs.Maps.{get_at, put_at, same_prefix, is_among}
-use Rattle.rcp_model.specs.Messages.{IsMessage, message_size}
-use Rattle.rcp_model.specs.Attributes.{Attribute, canonical_octets, attributes_in}
-use Rattle.rcp_model.specs.Updates.{Table, after_messages, replay, Changes, changes_of}
+use Rattle.rcp_model.specs.Messages.{IsMessage}
+use Rattle.rcp_model.specs.Attributes.{canonical_octets, attributes_in}
+use Rattle.rcp_model.specs.Updates.{Table, after_messages, Changes, changes_of}
 use Rattle.rcp_model.specs.LinkState.{same_number}
-use Rattle.rcp_model.specs.Control.{Domain, Server, ServerEvent, Up, Down, Change, Links, Work, table_of, is_connected, is_touched, offer, same_octets, announced_by, after, after_all}
-use Rattle.rcp_model.specs.Feed.{FeedRecord, RosterOf, READY, OCTETS, DRAIN, SUMMARY}
-use Rattle.rcp_model.specs.Meaning.{Connection, Established, slot_in, slot_on, Platform, domain_of, fresh, slot_from, update_events, is_faultless_update, work_events, OutRecord, cell_of, changed_cells, messages_to, drained, summary, is_new_number, seated, heard, drained_server, drain_messages, drain, step, output, platform_after, all_output, sent_to, Headline}
+use Rattle.rcp_model.specs.Control.{Domain, Server, ServerEvent, Up, Down, Change, Links, Work, table_of, is_connected, offer, same_octets, announced_by, after, after_all}
+use Rattle.rcp_model.specs.Feed.{FeedRecord, RosterOf, READY, OCTETS, DRAIN}
+use Rattle.rcp_model.specs.Meaning.{Connection, Established, slot_in, slot_on, Platform, domain_of, fresh, slot_from, update_events, is_faultless_update, work_events, OutRecord, changed_cells, messages_to, drained, summary, is_new_number, seated, heard, drained_server, drain_messages, drain, step, output, platform_after, all_output, sent_to, Headline}
 use Rattle.rcp_model.proofs.MapLemmas.{get_at-put_at_same, get_at-put_at_other}
 use Rattle.rcp_model.proofs.OfferLemmas.{offer-fits}
-use Rattle.rcp_model.proofs.ServerLemmas.{number_test, AreCanonical, Settled, settled-up, settled-change, settled-work}
+use Rattle.rcp_model.proofs.ServerLemmas.{number_test, Settled, settled-up, settled-change, settled-work}
 use Rattle.rcp_model.proofs.UpdateLemmas.{after_messages-append}
 use Rattle.rcp_model.proofs.RunLemmas.{CellUpdates, Replays, Replays-replay, Replays-nothing, all-append, FitsAt, FitsAt-from, cells-whole, cells-effect, Worked, worked-all}
 

@@ -1,16 +1,16 @@
 -- What an offer depends on, and that it leaves room for its prefix in an UPDATE.
-use Rattle.std.proofs.Common.{◌≡◌, ℕ, suc, ◌+◌, ◌≤◌, ◌<◌, Bool, true, false, cond, not, ◌&&◌, ◌||◌, eqb, List, [], ◌∷◌, ◌++◌, length, Option, Some, None, refl, sym, ap, subst, ◌∙◌, inl, inr, arith}
+use Rattle.std.proofs.Common.{◌≡◌, ℕ, suc, ◌≤◌, Bool, true, false, eqb, List, [], ◌∷◌, length, Option, Some, None, refl, sym, subst, ◌∙◌, inl, inr}
 use Rattle.std.specs.Prelude.{filter}
 use Rattle.std.specs.List.{list_any, AllByRecursion}
 use Rattle.std.specs.Int.{w16}
-use Rattle.std.proofs.lemmas.Bool.{cases_Bool, and_parts, and_from, or_cases, eqb-true, eq-eqb, not-true, ltb-false, both_ways}
+use Rattle.std.proofs.lemmas.Bool.{cases_Bool, and_parts, or_cases, eqb-true, not-true, ltb-false}
 use Rattle.rcp_base.specs.IpPrefix.{IpPrefix}
 use Rattle.rcp_base.specs.declared.names.Member.{Member}
 use Rattle.rcp_model.specs.declared.event.Edge.{Edge}
 use Rattle.rcp_model.specs.Attributes.{canonical_octets, attributes_in}
-use Rattle.rcp_model.specs.Routes.{RouteFields, route_of, route_in, is_usable, is_long}
-use Rattle.rcp_model.specs.Decision.{Contender, contender, unbeaten, has_higher_preference, has_shorter_path, has_lower_origin, has_lower_exit, tied, is_of, is_nearer, nearest, choice}
-use Rattle.rcp_model.specs.Control.{Domain, Announcements, announced_by, contender_of, announcement_contender, cons_some, candidates_from, candidates, slot_cost, choice_of, unless_own, offer}
+use Rattle.rcp_model.specs.Routes.{route_of, route_in, is_usable, is_long}
+use Rattle.rcp_model.specs.Decision.{Contender, tied, is_of, is_nearer, nearest, choice}
+use Rattle.rcp_model.specs.Control.{Domain, Announcements, announced_by, announcement_contender, cons_some, candidates_from, candidates, slot_cost, choice_of, unless_own, offer}
 
 -- ---- an offer depends on the announcements of its prefix alone
 

@@ -1,11 +1,11 @@
 -- Records of a feed are read as they are spelled, one after another; and what isn't plausible is of no form.
-use Rattle.std.proofs.Common.{◌≡◌, ℕ, zero, suc, ◌+◌, ◌-◌, ◌*◌, ◌^◌, ◌<◌, ◌≤◌, Bool, true, false, cond, not, ◌&&◌, ◌||◌, eqb, ltb, leb, List, [], ◌∷◌, ◌++◌, length, map, take, drop, get_or, Option, Some, None, refl, sym, ap, subst, ◌∙◌, ◌⊎◌, inl, inr, arith, append_assoc}
-use Rattle.std.specs.Int.{w16, w32, to_be_bytes, from_be_bytes}
-use Rattle.std.proofs.lemmas.Bool.{cases_Bool, cases_lt, and_parts, and_from, eqb-true, eq-eqb, le-leb, lt-leb, leb-true, ltb-true, both_ways}
-use Rattle.std.proofs.lemmas.List.{append-nil, take_at, drop_at, length-append, length-drop, length-take, drop-take, get_or-take}
+use Rattle.std.proofs.Common.{◌≡◌, ℕ, zero, suc, ◌+◌, ◌-◌, ◌^◌, ◌<◌, ◌≤◌, Bool, true, false, cond, ◌&&◌, leb, List, [], ◌∷◌, ◌++◌, length, map, take, drop, get_or, Some, None, refl, sym, ap, ◌∙◌, ◌⊎◌, inl, inr, arith, append_assoc}
+use Rattle.std.specs.Int.{w32, to_be_bytes, from_be_bytes}
+use Rattle.std.proofs.lemmas.Bool.{cases_lt, le-leb, lt-leb}
+use Rattle.std.proofs.lemmas.List.{length-append, length-drop, length-take, drop-take, get_or-take}
 use Rattle.std.proofs.lemmas.Nat.{from_be_bytes-to_be_bytes_4}
 use Rattle.rcp_model.specs.Cut.{cut}
-use Rattle.rcp_model.specs.Feed.{FeedRecord, ROSTER, READY, OCTETS, DRAIN, FINISH, body_length, record_size, record_of, records_in, record_octets, FitsFrame}
+use Rattle.rcp_model.specs.Feed.{FeedRecord, body_length, record_size, record_of, records_in, record_octets, FitsFrame}
 use Rattle.rcp_model.specs.Meaning.{Platform, step}
 use Rattle.rcp_model.specs.Plain.{may_be, is_plausible, has_form, is_end, first_roster, Finished, TooLong, BadBody, most_octets, record_length, ending, formed}
 use Rattle.rcp_model.proofs.CutLemmas.{cut-append, cut-front, cut-stop}

@@ -1,24 +1,16 @@
 -- What a run of records keeps: the octets sent to each connection replay to the table of its slot.
-use Rattle.std.proofs.Common.{◌≡◌, ℕ, suc, ◌+◌, ◌≤◌, ◌<◌, Bool, true, false, cond, not, ◌&&◌, ◌||◌, eqb, ltb, List, [], ◌∷◌, ◌++◌, length, map, get_or, Option, Some, None, refl, sym, ap, subst, ◌∙◌, ◌⊎◌, inl, inr, arith, append_assoc}
-use Rattle.std.specs.Prelude.{filter, is_some, is_none, bytes_eq}
-use Rattle.std.specs.List.{list_any, list_all, concat, AllByRecursion}
-use Rattle.std.specs.Int.{w16, w32, from_be_bytes}
-use Rattle.std.proofs.lemmas.Bool.{cases_Bool, and_parts, and_from, and_left, and_right, or_cases, or_parts, or_from, eqb-true, eqb-false, eq-eqb, ne_eqb, ltb-true, not-true, both_ways, MatchBool-at_true}
-use Rattle.std.proofs.lemmas.List.{append-nil}
-use Rattle.std.proofs.lemmas.List.Folds.{concat-append}
+use Rattle.std.proofs.Common.{◌≡◌, ℕ, ◌≤◌, Bool, true, false, cond, ◌||◌, List, [], ◌∷◌, ◌++◌, length, Option, Some, None, refl, sym, ap, ◌∙◌, ◌⊎◌, inl, inr}
+use Rattle.std.specs.List.{concat, AllByRecursion}
+use Rattle.std.proofs.lemmas.Bool.{cases_Bool, or_cases, both_ways}
 use Rattle.std.proofs.lemmas.Slice.Eq.{bytes_eq-Decides}
 use Rattle.rcp_base.specs.IpPrefix.{IpPrefix, IsPrefix}
-use Rattle.rcp_model.specs.declared.event.Edge.{Edge}
 use Rattle.rcp_model.specs.Maps.{get_at, set_at, same_prefix, is_among}
 use Rattle.rcp_model.specs.Messages.{IsMessage, messages_in}
 use Rattle.rcp_model.specs.Updates.{Table, after_message, after_messages, replay}
-use Rattle.rcp_model.specs.LinkState.{same_number}
-use Rattle.rcp_model.specs.Control.{Domain, Announcements, Server, ServerEvent, Up, Work, Change, same_octets, table_of, is_touched, offer, worked, after, after_all}
-use Rattle.rcp_model.specs.Feed.{OCTETS, SUMMARY}
-use Rattle.rcp_model.specs.Meaning.{Connection, Established, slot_in, slot_on, OutRecord, cell_update, cell_of, changed_cells, messages_to, drained, summary, sent_to, work_events}
-use Rattle.rcp_model.proofs.MapLemmas.{get_at-set_at_same, get_at-set_at_other, same_prefix-is, same_prefix-itself, same_prefix-other, prefix_test}
+use Rattle.rcp_model.specs.Control.{Domain, Server, Work, same_octets, table_of, offer, after, after_all}
+use Rattle.rcp_model.specs.Meaning.{cell_update, cell_of, changed_cells, work_events}
+use Rattle.rcp_model.proofs.MapLemmas.{get_at-set_at_same, get_at-set_at_other, same_prefix-is, same_prefix-other, prefix_test}
 use Rattle.rcp_model.proofs.ServerLemmas.{worked-table}
-use Rattle.rcp_model.proofs.UpdateLemmas.{after_messages-append}
 
 -- What holds of an UPDATE for one cell, and of a list of messages: the codec's part, shown elsewhere.
 pub record CellUpdates : Type 0 where

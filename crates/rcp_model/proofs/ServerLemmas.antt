@@ -1,17 +1,17 @@
 -- What the events of the server keep: where a prefix isn't touched, each table has what its slot is offered.
-use Rattle.std.proofs.Common.{◌≡◌, ℕ, suc, ◌+◌, ◌≤◌, ◌<◌, Bool, true, false, cond, not, ◌&&◌, ◌||◌, eqb, List, [], ◌∷◌, ◌++◌, length, map, Option, Some, None, refl, sym, ap, subst, ◌∙◌, ◌⊎◌, inl, inr, arith}
-use Rattle.std.specs.Prelude.{filter, is_some}
-use Rattle.std.specs.List.{list_any, AllByRecursion}
-use Rattle.std.proofs.lemmas.Bool.{cases_Bool, and_parts, and_from, and_cases, and_left, and_right, or_cases, or_parts, or_from, or_left, or_right, eqb-true, eq-eqb, not-true, not-false, not_from_true, not_from_false, both_ways, false≢true}
+use Rattle.std.proofs.Common.{◌≡◌, ℕ, Bool, true, false, not, ◌&&◌, ◌||◌, eqb, List, [], ◌∷◌, Option, Some, None, refl, sym, ap, ◌∙◌, ◌⊎◌, inl, inr}
+use Rattle.std.specs.Prelude.{filter}
+use Rattle.std.specs.List.{AllByRecursion}
+use Rattle.std.proofs.lemmas.Bool.{cases_Bool, and_parts, and_from, and_right, or_parts, or_from, or_left, or_right, eqb-true, eq-eqb, both_ways}
 use Rattle.rcp_base.specs.IpPrefix.{IpPrefix, IsPrefix}
 use Rattle.rcp_model.specs.declared.event.Edge.{Edge}
-use Rattle.rcp_model.specs.Maps.{get_at, put_at, set_at, without, same_prefix, is_before, include, include_all, is_among}
+use Rattle.rcp_model.specs.Maps.{get_at, put_at, set_at, same_prefix, is_before, include, include_all, is_among}
 use Rattle.rcp_model.specs.Attributes.{canonical_octets, attributes_in}
 use Rattle.rcp_model.specs.Updates.{Table}
 use Rattle.rcp_model.specs.LinkState.{same_number}
-use Rattle.rcp_model.specs.Control.{Domain, Place, Announcements, Server, ServerEvent, Up, Down, Change, Links, Work, same_place, announced_by, announced_prefixes, of_slot, same_octets, table_of, is_connected, is_touched, offer, worked, after, after_all}
-use Rattle.rcp_model.proofs.MapLemmas.{IsKeyTest, get_at-put_at_same, get_at-put_at_other, get_at-without_left, get_at-set_at_same, get_at-set_at_other, same_prefix-is, same_prefix-itself, same_prefix-other, prefix_test, is_among-include, is_among-include_all}
-use Rattle.rcp_model.proofs.OfferLemmas.{offer-same, offer-none, offer-fits}
+use Rattle.rcp_model.specs.Control.{Domain, Place, Announcements, Server, Up, Change, Work, same_place, announced_by, announced_prefixes, same_octets, table_of, is_connected, is_touched, offer, worked, after}
+use Rattle.rcp_model.proofs.MapLemmas.{IsKeyTest, get_at-put_at_same, get_at-put_at_other, get_at-set_at_same, get_at-set_at_other, same_prefix-is, same_prefix-itself, same_prefix-other, prefix_test, is_among-include, is_among-include_all}
+use Rattle.rcp_model.proofs.OfferLemmas.{offer-same, offer-none}
 
 -- ---- the tests of keys
 

@@ -1,16 +1,16 @@
 -- UPDATEs: that one that is written is read again, and what it does to a table.
-use Rattle.std.proofs.Common.{◌≡◌, ℕ, suc, ◌+◌, ◌<◌, ◌≤◌, true, false, not, None, List, [], ◌∷◌, ◌++◌, length, take, drop, Some, refl, sym, ap, ◌∙◌, subst, arith, eqb, eq-eqb, ltb, leb, length-append, append_assoc, append-nil, le-leb, le-ltb, take_at, drop_at}
-use Rattle.std.specs.List.{concat, flat_map, AllByRecursion}
+use Rattle.std.proofs.Common.{◌≡◌, ℕ, suc, ◌+◌, ◌<◌, ◌≤◌, true, false, not, None, List, [], ◌∷◌, ◌++◌, length, take, drop, Some, refl, sym, ap, ◌∙◌, subst, arith, eqb, eq-eqb, ltb, leb, length-append, append_assoc, le-leb, le-ltb, take_at, drop_at}
+use Rattle.std.specs.List.{flat_map, AllByRecursion}
 use Rattle.std.specs.Prelude.{filter}
 use Rattle.std.specs.Int.{Width, w16, to_be_bytes}
 use Rattle.std.proofs.lemmas.Bool.{or_from, and_from}
 use Rattle.std.proofs.lemmas.Nat.{from_be_bytes-to_be_bytes_2}
 use Rattle.rcp_base.specs.IpPrefix.{IpPrefix, IsPrefix, prefix_octets}
-use Rattle.rcp_model.specs.Messages.{is_outside, type_field, message_size, IsMessage, messages_in, message_octets}
+use Rattle.rcp_model.specs.Messages.{is_outside, type_field, message_size, IsMessage, message_octets}
 use Rattle.rcp_model.specs.Maps.{is_among}
 use Rattle.rcp_model.specs.Attributes.{attributes_in, attributes_fault, or_else}
-use Rattle.rcp_model.specs.Updates.{prefixes_fault, update_fault, changes_of, Sections, leading_number, after_section, section, has_section, sections_of, prefixes_in, update_octets, Table, withdraw_all, announce_all, after_message, after_messages, replay}
-use Rattle.rcp_model.proofs.ReadingLemmas.{IsFront-message, IsMessage-message_octets, length-message_octets, messages_in-cons, messages_in-concat}
+use Rattle.rcp_model.specs.Updates.{prefixes_fault, update_fault, changes_of, Sections, leading_number, after_section, section, has_section, sections_of, prefixes_in, update_octets, Table, withdraw_all, announce_all, after_message, after_messages}
+use Rattle.rcp_model.proofs.ReadingLemmas.{IsFront-message, IsMessage-message_octets, length-message_octets}
 use Rattle.rcp_model.proofs.SectionLemmas.{prefixes_in-written, prefixes_fault-written}
 
 -- ---- one section

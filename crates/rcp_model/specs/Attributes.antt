@@ -1,8 +1,8 @@
 -- Path attributes (RFC 4271 sections 4.3 and 5, RFC 1997): how they are read, the first fault of a list of them
 -- (section 6.3), and their canonical octets. AS numbers have a width, which is a parameter.
-use Rattle.std.specs.Prelude.{ℕ, ◌+◌, ◌*◌, ◌/◌, ◌%◌, Bool, true, false, not, ◌&&◌, ◌||◌, ◌==◌, List, [], ◌∷◌, ◌++◌, length, take, drop, map, filter, slice_index, Option, Some, None, is_some, is_none, option_map, nat_lt, nat_le, if◌then◌else◌}
+use Rattle.std.specs.Prelude.{ℕ, ◌+◌, ◌*◌, ◌/◌, ◌%◌, Bool, false, not, ◌&&◌, ◌||◌, ◌==◌, List, [], ◌∷◌, ◌++◌, length, take, drop, map, filter, slice_index, Option, Some, None, is_some, is_none, nat_lt, nat_le, if◌then◌else◌}
 use Rattle.std.specs.List.{list_any, flat_map}
-use Rattle.std.specs.Int.{Width, w8, w16, w32, byte_len, to_be_bytes, from_be_bytes}
+use Rattle.std.specs.Int.{Width, w16, byte_len, to_be_bytes, from_be_bytes}
 use Rattle.rcp_model.specs.Cut.{cut}
 use Rattle.rcp_model.specs.Messages.{FaultOf, fault, first_failing, is_outside}
 

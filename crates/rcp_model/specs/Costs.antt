@@ -1,5 +1,5 @@
 -- Interior costs: the least sum over all walks of edges, and partitions.
-use Rattle.std.specs.Prelude.{◌≡◌, ℕ, ◌+◌, ◌≤◌, Bool, true, false, ◌&&◌, ◌==◌, List, [], ◌∷◌, map, min, Contains, Option, Some, None, is_some, IsTrue, MatchOption, if◌then◌else◌}
+use Rattle.std.specs.Prelude.{◌≡◌, ℕ, ◌+◌, ◌≤◌, Bool, ◌&&◌, ◌==◌, List, [], ◌∷◌, min, Contains, Option, Some, None, is_some, MatchOption, if◌then◌else◌}
 use Rattle.std.specs.List.{list_any}
 use Rattle.rcp_model.specs.declared.event.Edge.{Edge}
 

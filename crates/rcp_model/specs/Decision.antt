@@ -1,6 +1,6 @@
 -- The decision process (RFC 4271 sections 9.1.1 and 9.1.2.2).
-use Rattle.std.specs.Prelude.{◌≡◌, ℕ, Bool, true, false, not, ◌&&◌, ◌||◌, ◌==◌, List, [], ◌∷◌, filter, Contains, Option, Some, None, nat_lt, nat_le, if◌then◌else◌}
-use Rattle.std.specs.List.{list_all, list_any}
+use Rattle.std.specs.Prelude.{◌≡◌, ℕ, Bool, true, false, not, ◌&&◌, ◌||◌, ◌==◌, List, [], ◌∷◌, filter, Contains, Option, Some, None, nat_lt, if◌then◌else◌}
+use Rattle.std.specs.List.{list_any}
 use Rattle.rcp_model.specs.Routes.{RouteFields}
 
 -- a route that takes part: who announced it, and what is compared of it

@@ -1,6 +1,6 @@
 -- The edges of the interior network (RFC 2328 section 16.1): what the link state and the roster give.
-use Rattle.std.specs.Prelude.{◌≡◌, ℕ, Bool, true, false, not, ◌&&◌, ◌||◌, ◌==◌, List, [], ◌∷◌, ◌++◌, filter, min, Option, Some, None, is_some, nat_lt, if◌then◌else◌}
-use Rattle.std.specs.List.{list_any, flat_map}
+use Rattle.std.specs.Prelude.{ℕ, Bool, ◌&&◌, ◌||◌, ◌==◌, List, [], ◌∷◌, ◌++◌, min, Option, Some, None, is_some, nat_lt, if◌then◌else◌}
+use Rattle.std.specs.List.{flat_map}
 use Rattle.rcp_model.specs.declared.event.Edge.{Edge}
 use Rattle.rcp_model.specs.LinkState.{RouterLink, Kept, LinkState}
 

@@ -1,10 +1,10 @@
 -- The definitions at work: small networks whose outcome is known, as values that the definitions compute.
-use Rattle.std.specs.Prelude.{◌≡◌, ℕ, List, [], ◌∷◌, ◌++◌, replicate, Option, Some, None}
+use Rattle.std.specs.Prelude.{ℕ, List, [], ◌∷◌, ◌++◌}
 use Rattle.rcp_base.specs.declared.names.Member.{Member}
 use Rattle.rcp_model.specs.declared.event.Edge.{Edge}
 use Rattle.rcp_model.specs.Messages.{marker}
 use Rattle.rcp_model.specs.Feed.{FeedRecord, RosterOf, READY, OCTETS, DRAIN}
-use Rattle.rcp_model.specs.Meaning.{OutRecord, fresh, all_output}
+use Rattle.rcp_model.specs.Meaning.{OutRecord}
 
 -- routers 10.0.0.1, 10.0.0.2 and 10.0.0.3, whose BGP Identifiers are their router IDs
 abbrev pub A : ℕ

@@ -1,5 +1,5 @@
 -- Recorded feeds: records in frames, and the roster that the first of them holds, in the plain form that is read today.
-use Rattle.std.specs.Prelude.{◌≡◌, ℕ, ◌+◌, ◌^◌, ◌<◌, Bool, true, false, not, ◌&&◌, ◌||◌, ◌==◌, List, [], ◌∷◌, ◌++◌, length, take, drop, map, slice_index, Option, Some, None, is_some, is_none, option_and_then, nat_lt, nat_le, if◌then◌else◌, bytes_eq, codes}
+use Rattle.std.specs.Prelude.{ℕ, ◌+◌, ◌^◌, ◌<◌, Bool, not, ◌&&◌, ◌==◌, List, [], ◌∷◌, ◌++◌, length, take, drop, map, slice_index, Option, Some, None, option_and_then, nat_lt, nat_le, if◌then◌else◌, bytes_eq, codes}
 use Rattle.std.specs.List.{list_any, slice_split}
 use Rattle.std.specs.Int.{w32, to_be_bytes, from_be_bytes}
 use Rattle.rcp_base.specs.Text.{number_of, address_of}

@@ -1,6 +1,6 @@
 -- What a feed means: a fold over its records, which gives the events of the route control server and the records that are put out.
-use Rattle.std.specs.Prelude.{◌≡◌, ℕ, ◌+◌, ◌-◌, ◌^◌, Bool, true, false, not, ◌&&◌, ◌||◌, ◌==◌, List, [], ◌∷◌, ◌++◌, length, map, drop, filter, min, Option, Some, None, is_some, is_none, unwrap_or, nat_lt, nat_le, if◌then◌else◌}
-use Rattle.std.specs.List.{list_any, list_all, flat_map}
+use Rattle.std.specs.Prelude.{◌≡◌, ℕ, ◌+◌, ◌-◌, ◌^◌, Bool, false, not, ◌&&◌, ◌==◌, List, [], ◌∷◌, ◌++◌, length, map, drop, min, Option, Some, None, is_none, nat_lt, if◌then◌else◌}
+use Rattle.std.specs.List.{list_all}
 use Rattle.std.specs.Int.{w16, w32, w64, to_be_bytes, from_be_bytes}
 use Rattle.rcp_base.specs.IpPrefix.{IpPrefix}
 use Rattle.rcp_base.specs.declared.names.Member.{Member}
@@ -10,7 +10,7 @@ use Rattle.rcp_model.specs.Attributes.{canonical_octets}
 use Rattle.rcp_model.specs.Updates.{Table, update_fault, update_octets, changes_of, Changes, replay}
 use Rattle.rcp_model.specs.Edges.{rising_edges}
 use Rattle.rcp_model.specs.Feed.{FeedRecord, RosterOf, READY, OCTETS, DRAIN, SUMMARY}
-use Rattle.rcp_model.specs.Control.{Domain, Server, ServerEvent, Up, Down, Change, Links, Work, after_all, table_of, is_connected, announced_prefixes, same_octets, is_touched, offer}
+use Rattle.rcp_model.specs.Control.{Domain, Server, ServerEvent, Up, Change, Work, after_all, table_of, is_connected, announced_prefixes, same_octets, is_touched, offer}
 
 -- ---- the state
 

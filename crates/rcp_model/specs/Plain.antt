@@ -1,5 +1,5 @@
 -- The plain form of feed that is read today: which records are of the form, and what a whole feed comes to.
-use Rattle.std.specs.Prelude.{◌≡◌, ℕ, ◌+◌, ◌^◌, Bool, true, false, not, ◌&&◌, ◌||◌, ◌==◌, List, [], ◌∷◌, ◌++◌, length, take, drop, map, Option, Some, None, is_some, nat_lt, nat_le, if◌then◌else◌, bytes_eq}
+use Rattle.std.specs.Prelude.{◌≡◌, ℕ, ◌+◌, ◌^◌, Bool, false, not, ◌&&◌, ◌==◌, List, [], ◌∷◌, ◌++◌, length, take, drop, map, Option, Some, None, is_some, nat_lt, nat_le, if◌then◌else◌, bytes_eq}
 use Rattle.std.specs.List.{list_all, flat_map}
 use Rattle.std.specs.Int.{w16, w32, from_be_bytes}
 use Rattle.rcp_model.specs.Attributes.{Attribute, Segment, ORIGIN, AS_PATH, NEXT_HOP, LOCAL_PREF, AS_SEQUENCE, attributes_in}

@@ -1,7 +1,7 @@
 -- Routes (RFC 4271 sections 1.1 and 9.1): what the decision reads of path attributes.
-use Rattle.std.specs.Prelude.{◌≡◌, ℕ, ◌+◌, Bool, true, false, not, ◌&&◌, ◌||◌, ◌==◌, List, [], ◌∷◌, length, map, sum_by, Option, Some, None, unwrap_or, option_map, nat_lt, if◌then◌else◌, IsTrue}
+use Rattle.std.specs.Prelude.{◌≡◌, ℕ, Bool, true, not, ◌&&◌, ◌==◌, List, [], ◌∷◌, length, sum_by, Option, Some, None, unwrap_or, nat_lt, if◌then◌else◌}
 use Rattle.std.specs.List.{list_any}
-use Rattle.std.specs.Int.{Width, w8, w16, w32, from_be_bytes}
+use Rattle.std.specs.Int.{Width, w8, w32, from_be_bytes}
 use Rattle.rcp_model.specs.Attributes.{Attribute, Segment, ORIGIN, AS_PATH, NEXT_HOP, MULTI_EXIT_DISC, LOCAL_PREF, AS_SEQUENCE, value_of, segments_in, attributes_in, canonical_octets, has_route}
 
 -- the fields of a route; `attrs` are the canonical octets of its path attributes

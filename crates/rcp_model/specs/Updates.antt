@@ -1,11 +1,11 @@
 -- UPDATE messages (RFC 4271 section 4.3): their sections, their first fault (section 6.3) and what they change,
 -- how they are written, and what octets that were sent come to.
-use Rattle.std.specs.Prelude.{◌≡◌, ℕ, ◌+◌, Bool, true, false, not, ◌&&◌, ◌||◌, ◌==◌, List, [], ◌∷◌, ◌++◌, length, take, drop, map, filter, filter_map, slice_index, Option, Some, None, is_some, option_map, nat_lt, nat_le, if◌then◌else◌}
+use Rattle.std.specs.Prelude.{ℕ, ◌+◌, Bool, not, ◌&&◌, ◌==◌, List, [], ◌∷◌, ◌++◌, length, take, drop, filter, filter_map, Option, Some, None, option_map, nat_le, if◌then◌else◌}
 use Rattle.std.specs.List.{flat_map}
 use Rattle.std.specs.Int.{Width, w16, to_be_bytes, from_be_bytes}
 use Rattle.rcp_base.specs.IpPrefix.{IpPrefix, prefix_at, prefix_octets}
 use Rattle.rcp_model.specs.Cut.{cut}
-use Rattle.rcp_model.specs.Maps.{get_at, put_at, without, same_prefix, is_among}
+use Rattle.rcp_model.specs.Maps.{put_at, without, same_prefix, is_among}
 use Rattle.rcp_model.specs.Messages.{FaultOf, fault, type_field, messages_in, message_octets}
 use Rattle.rcp_model.specs.Attributes.{Attribute, attributes_in, attributes_fault, or_else}
 
