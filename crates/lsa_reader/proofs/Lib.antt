@@ -1,0 +1,6 @@
+pub mod Sums
+pub mod LinkLists
+pub mod FirstFault
+pub mod Walks
+pub mod Spelling
+pub mod ReadAgain

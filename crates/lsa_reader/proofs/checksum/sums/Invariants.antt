@@ -1,0 +1,7 @@
+use Rattle.std.proofs.Common.{◌≡◌, ◌%◌, sum, take}
+use Rattle.lsa_reader.specs.RouterLsas.{weighted}
+use Rattle.lsa_reader.proofs.checksum.sums.Given as goal
+
+abbrev pub invariant-loop-octet : goal.invariant-loop-octet
+invariant-loop-octet l =
+    (l.first ≡ sum (take l.octet-index l.octets) % 255) × (l.second ≡ weighted (take l.octet-index l.octets) % 255)

@@ -1,0 +1,5 @@
+use Rattle.lsa_reader.specs.LsaWalk.{IsOnWalk}
+use Rattle.lsa_reader.proofs.tests.walk.Given as goal
+
+abbrev pub invariant-loop-step : goal.invariant-loop-step
+invariant-loop-step l = IsOnWalk l.packet l.place

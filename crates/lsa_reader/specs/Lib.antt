@@ -1,0 +1,3 @@
+pub mod RouterLsas
+pub mod LsaWalk
+pub mod Faults

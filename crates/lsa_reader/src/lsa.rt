@@ -1,0 +1,80 @@
+// What a router LSA says, and the faults of its octets.
+use rcp_base::RouterId;
+use std::marker::Model;
+use thiserror::Error;
+
+/// The type of a router LSA (RFC 2328 section A.4.1).
+pub const ROUTER_LSA: u8 = 1;
+
+/// Link types of a router LSA (RFC 2328 section A.4.2).
+pub const POINT_TO_POINT: u8 = 1;
+
+pub const TRANSIT: u8 = 2;
+
+pub const STUB: u8 = 3;
+
+pub const VIRTUAL: u8 = 4;
+
+/// A link of a router LSA: its link ID, its type as it stands in the octets, and its metric. The type is one of the
+/// four above, or another, which no one uses.
+#[derive(Clone, Copy, Debug, PartialEq, Eq)]
+pub struct LsaLink {
+    pub id: u32,
+    pub kind: u8,
+    pub metric: u16,
+}
+
+impl Model for LsaLink {
+    ghost use Rattle.rcp_model.specs.LinkState.{RouterLink};
+
+    ghost Value = { RouterLink };
+
+    ghost view = { λ l. record { id = l.id; kind = l.kind; metric = l.metric } };
+
+    ghost inverse = { λ l. record { id = l.id; kind = l.kind; metric = l.metric } };
+}
+
+/// A router LSA (RFC 2328 section A.4.2): the router that it describes and that advertises it, its age in seconds,
+/// its sequence number, its checksum and its links. Contracts see the record of these.
+#[derive(Debug, Drop)]
+pub struct Lsa {
+    pub router: RouterId,
+    pub age: u16,
+    pub sequence: i32,
+    pub checksum: u16,
+    pub links: Vec<LsaLink>,
+}
+
+impl Model for Lsa {
+    ghost use Rattle.rcp_model.specs.LinkState.{RouterLsa};
+
+    ghost Value = { RouterLsa };
+
+    ghost view = { λ l. record { router = l.router; header = record { sequence = l.sequence; checksum = l.checksum; age = l.age }; links = l.links.items } };
+}
+
+/// What is wrong with the octets of a router LSA. The first of these counts, in this order.
+#[derive(Clone, Copy, Debug, PartialEq, Eq, Error)]
+pub enum LsaFault {
+    /// Fewer than 24 octets; or the packet ends within the LSA, or its length is less than that of a header.
+    #[error("the LSA is cut short")]
+    Short = 1,
+    /// The checksum is 0, or doesn't fit the octets (RFC 2328 section 12.1.7).
+    #[error("the checksum doesn't fit")]
+    Checksum = 2,
+    /// The links that are counted aren't exactly what the LSA holds.
+    #[error("the links don't fill the LSA")]
+    Links = 3,
+    /// The link state ID isn't the advertising router.
+    #[error("the LSA describes another router than its own")]
+    Owner = 4,
+}
+
+/// Why no LSA was read.
+#[derive(Clone, Copy, Debug, PartialEq, Eq, Error)]
+pub enum LsaRefusal {
+    #[error("{0}")]
+    Fault(LsaFault),
+    #[error("no memory")]
+    NoMemory,
+}
