@@ -1,5 +1,5 @@
 -- The octets of a record that is lawful are read as that record.
-use Rattle.std.proofs.Common.{◌≡◌, ℕ, ◌+◌, ◌^◌, ◌<◌, ◌≤◌, Bool, true, false, cond, ltb, leb, List, [], ◌∷◌, ◌++◌, length, drop, Option, Some, None, Result, Ok, Err, refl, sym, ap, subst, ◌∙◌, append_assoc, arith}
+use Rattle.std.proofs.Common.{◌≡◌, ℕ, ◌+◌, ◌^◌, ◌<◌, Bool, true, false, ltb, leb, List, [], ◌∷◌, ◌++◌, length, drop, Option, Some, None, Result, Ok, refl, sym, ap, subst, ◌∙◌, append_assoc, arith}
 use Rattle.std.specs.Prelude.{unwrap_or, is_none, not, ◌&&◌, ◌||◌, IsTrue, IfSome}
 use Rattle.std.proofs.lemmas.Bool.{leb-false}
 use Rattle.std.proofs.lemmas.List.{length-append, drop_at}
@@ -10,7 +10,7 @@ use Rattle.rcp_base.specs.declared.kinds.FeedWhy.{FeedWhy}
 use Rattle.rcp_base.specs.declared.kinds.FeedWhy.TheVariants as why
 use Rattle.outside.specs.Told.{in_front}
 use Rattle.rcp_base.specs.Checks.{first_failing, unless}
-use Rattle.rcp_base.specs.Feed.{FeedState, FeedRecord, IsRecord, kind_of, kind_in, letter_of, letter_at, source_at, length_at, frame_size, record_in, record_octets, is_roster, has_length, header_checks, frame_checks, body_checks, fault_in_front, fault_of, front}
+use Rattle.rcp_base.specs.Feed.{FeedState, FeedRecord, IsRecord, kind_of, kind_in, letter_of, source_at, length_at, frame_size, record_in, record_octets, is_roster, has_length, header_checks, frame_checks, body_checks, fault_in_front, fault_of, front}
 use Rattle.feed_format.specs.Reading.{Gives}
 use Rattle.feed_format.proofs.FrontLemmas.{passes_first, whole, record_of, record_front, header_octets, kind_of-letter_of, frame_size_front}
 

@@ -1,18 +1,18 @@
 -- The first fault of what stands in front, as the reader comes to it.
-use Rattle.std.proofs.Common.{◌≡◌, ℕ, ◌+◌, ◌*◌, ◌^◌, ◌<◌, ◌≤◌, Bool, true, false, cond, eqb, leb, ltb, All, List, [], ◌∷◌, ◌++◌, length, get_or, take, drop, Option, Some, None, Result, Ok, Err, refl, sym, ap, ◌∙◌, append_assoc, arith, inl, inr}
+use Rattle.std.proofs.Common.{◌≡◌, ℕ, ◌+◌, ◌^◌, ◌<◌, ◌≤◌, Bool, true, false, cond, eqb, leb, ltb, List, [], ◌∷◌, ◌++◌, length, get_or, take, drop, Option, Some, None, Result, refl, sym, ap, ◌∙◌, arith, inl, inr}
 use Rattle.std.specs.Int.{w32, to_be_bytes, from_be_bytes}
-use Rattle.std.specs.Prelude.{not, ◌&&◌, ◌||◌, IfSome, is_none, unwrap_or}
+use Rattle.std.specs.Prelude.{is_none, unwrap_or}
 use Rattle.std.specs.Result.{result_err}
-use Rattle.std.proofs.lemmas.Bool.{le-leb, lt-leb, lt-ltb, le-ltb, leb-true, ltb-false, cases_lt, eqb-true}
+use Rattle.std.proofs.lemmas.Bool.{le-leb, lt-leb, lt-ltb, le-ltb, cases_lt, eqb-true}
 use Rattle.std.proofs.lemmas.List.{get_or_append_left, length-append, length-take, length-drop, take-append-le, drop-append-le, drop_at, take_at, get_or-take, get_or-drop, get_or_past, take_more, take_all, take-append-drop, drop-drop}
-use Rattle.std.proofs.lemmas.Nat.{be_bytes_4, from_be_bytes-to_be_bytes_4}
+use Rattle.std.proofs.lemmas.Nat.{be_bytes_4}
 use Rattle.std.proofs.lemmas.Option.{none-some, same_Some}
 use Rattle.rcp_base.specs.declared.kinds.Kind.{Kind}
 use Rattle.rcp_base.specs.declared.kinds.Kind.TheVariants as kinds
 use Rattle.rcp_base.specs.declared.kinds.FeedWhy.{FeedWhy}
 use Rattle.rcp_base.specs.declared.kinds.FeedWhy.TheVariants as why
 use Rattle.rcp_base.specs.Checks.{first_failing, unless}
-use Rattle.rcp_base.specs.Feed.{FeedState, FeedRecord, IsRecord, kind_of, letter_of, kind_in, letter_at, source_at, length_at, body_at, record_in, frame_size, record_octets, header_checks, frame_checks, body_checks, fault_in_front, fault_of, front}
+use Rattle.rcp_base.specs.Feed.{FeedState, FeedRecord, kind_of, letter_of, kind_in, letter_at, source_at, length_at, body_at, record_in, frame_size, header_checks, frame_checks, body_checks, fault_in_front}
 
 result_err-unless : {X : Type 0} (fault : Option FeedWhy) (x : X) → result_err (unless fault x) ≡ fault
 result_err-unless None x = refl

@@ -1,24 +1,23 @@
 -- What was taken at each place where taking a record ends.
-use Rattle.std.proofs.Common.{◌≡◌, ℕ, ◌+◌, ◌^◌, ◌<◌, ◌≤◌, Bool, true, false, cond, ltb, leb, All, List, [], ◌∷◌, ◌++◌, length, get_or, Option, Some, None, Result, Ok, Err, refl, sym, ap, subst, ◌∙◌, append_assoc, arith, inl, inr}
+use Rattle.std.proofs.Common.{◌≡◌, ℕ, ◌+◌, ◌^◌, ◌<◌, ◌≤◌, Bool, true, false, cond, ltb, leb, All, List, [], ◌∷◌, ◌++◌, length, Option, Some, None, Ok, Err, refl, sym, ap, subst, ◌∙◌, append_assoc, arith, inl, inr}
 use Rattle.std.specs.Prelude.{IfSome, unwrap_or, is_none, not, ◌&&◌, ◌||◌}
 use Rattle.std.specs.Result.{result_err}
 use Rattle.std.proofs.lemmas.Bool.{lt-ltb, le-ltb, ltb-false, lt-leb, cases_lt}
 use Rattle.std.proofs.lemmas.List.{length-append, get_or_past}
-use Rattle.std.proofs.lemmas.List.Elements.{All-from_get_or}
-use Rattle.std.proofs.lemmas.Option.{none-some, same_Some, IfSome_then}
+use Rattle.std.proofs.lemmas.Option.{IfSome_then}
 use Rattle.outside.specs.Told.{in_front, in_front-nil, in_front-append}
 use Rattle.rcp_base.specs.declared.kinds.Kind.TheVariants as kinds
 use Rattle.rcp_base.specs.declared.kinds.FeedWhy.{FeedWhy}
 use Rattle.rcp_base.specs.declared.kinds.FeedWhy.TheVariants as why
 use Rattle.rcp_base.specs.Checks.{first_failing, unless}
-use Rattle.rcp_base.specs.Feed.{FeedState, FeedRecord, IsRecord, kind_of, kind_in, letter_at, source_at, length_at, frame_size, is_roster, has_length, record_octets, header_checks, frame_checks, body_checks, fault_in_front, fault_of}
+use Rattle.rcp_base.specs.Feed.{FeedState, FeedRecord, kind_of, kind_in, letter_at, length_at, frame_size, is_roster, has_length, header_checks, frame_checks, body_checks, fault_in_front, fault_of}
 use Rattle.feed_format.specs.declared.taking.Stop.{Stop}
 use Rattle.feed_format.specs.declared.taking.Stop.TheVariants as stop
 use Rattle.feed_format.specs.declared.reader.Header.{Header}
 use Rattle.feed_format.specs.Taking.{TakesFewer, TakesUpTo, IsShortOrRead, IsNoOtherFault}
 use Rattle.feed_format.specs.HeaderOf.{IsHeader}
 use Rattle.feed_format.specs.Reading.{Takes, TakesPart, TakesLess, TakesRecord, TakesFault}
-use Rattle.feed_format.proofs.FrontLemmas.{too_long, short_header, faulty_header, short_body, whole, record_of, header_octets, header_is, frame_size_front, passes_first, passes-append, IsBytes, source_bound}
+use Rattle.feed_format.proofs.FrontLemmas.{too_long, short_header, faulty_header, short_body, whole, record_of, header_is, frame_size_front, passes_first, passes-append, IsBytes, source_bound}
 
 -- what holds however the octets that were taken go on
 pub told_in_front : (P : List ℕ → Type 0) (taken : List ℕ) (before now : Option (List ℕ)) → before ≡ in_front taken now → ((rest : List ℕ) → P (taken ++ rest)) → IfSome before P

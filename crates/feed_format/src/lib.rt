@@ -1,4 +1,18 @@
-//! Records of feeds and of what is put out, and the status of a program.
+//! Records of feeds and of what is put out, and how a run of a program ends.
+//!
+//! A record is a kind in one octet, a source and a length in four octets each, and a body. Contracts see a [`Record`]
+//! and an [`Out`] as the record of their fields, with the body as its list, and a [`Reader`] as what it remembers of
+//! the records before: their number and octets, the connections, the latest time, and whether the feed has ended.
+//!
+//! A caller may rely on this: [`Reader::next`] gives exactly the records of the feed that stands in front of the
+//! octets, one at a time, and else exactly its first fault in the order of the checks, at the number of the record; a
+//! read fault only where the source failed. It takes no octet behind a record. What [`write_out`] wrote is read again
+//! as that record.
+//!
+//! ```text
+//! let mut reader = Reader::new(alloc);
+//! let roster = reader.next(&mut source)?; // Kind::Roster, or FeedRefusal::Feed { number: 1, why: NoRoster }
+//! ```
 #![tactic(auto)]
 
 mod laws;
@@ -14,3 +28,6 @@ pub use reader::{FeedRefusal, Reader};
 pub use record::{Out, Record};
 pub use status::{Status, WalkRefusal, WalkWhy};
 pub use writing::write_out;
+
+#[cfg(test)]
+mod tests;

@@ -379,3 +379,6 @@ fn moment_of(body: &[u8]) -> u64
         body[0], body[1], body[2], body[3], body[4], body[5], body[6], body[7],
     ])
 }
+
+#[cfg(test)]
+mod tests;

@@ -1,4 +1,4 @@
-//! Records in and out.
+//! Records of feeds, and those that are put out.
 
 use rcp_base::Kind;
 use std::marker::Model;

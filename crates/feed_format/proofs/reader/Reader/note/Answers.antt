@@ -1,5 +1,5 @@
-use Rattle.std.proofs.Common.{arith, rules, ap, ◌≡◌, ◌<◌, ◌≤◌, ◌^◌, length}
-use Rattle.rcp_base.specs.Feed.{FeedState, FeedRecord}
+use Rattle.std.proofs.Common.{arith, rules, ap, ◌≡◌, length}
+use Rattle.rcp_base.specs.Feed.{FeedState}
 use Rattle.feed_format.proofs.AgainLemmas.{lawful_length, lawful_parts}
 use Rattle.feed_format.proofs.reader.Reader.note.Goals as goal
 

@@ -1,7 +1,6 @@
-use Rattle.std.proofs.Common.{◌≡◌, ◌<◌, ◌^◌, ◌∙◌, sym, None, Some, Ok, Err, ap, arith}
+use Rattle.std.proofs.Common.{◌<◌, ◌^◌, Err, ap}
 use Rattle.std.proofs.lemmas.Result.{err_from_is_err_and}
-use Rattle.feed_format.specs.declared.taking.Stop.TheVariants as stop
-use Rattle.feed_format.proofs.TakingLemmas.{Passed, stops_too_long, stops_at_header, stops_by_header, stops_at_body, stops_by_body, takes_record, fault_is, no_fault}
+use Rattle.feed_format.proofs.TakingLemmas.{stops_too_long, stops_at_header, stops_by_header, stops_at_body, stops_by_body, takes_record, fault_is, no_fault}
 use Rattle.feed_format.proofs.reader.Reader.take.Goals as goal
 
 pub returns-then-self-ge-MOST_OCTETS-clause-takes :
