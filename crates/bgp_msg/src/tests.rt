@@ -18,7 +18,10 @@ const WITHDRAWAL: [u8; 27] = [
 
 #[test]
 fn an_announcement_is_read(rt: HostRuntime) -> Result<(), Fail> {
-    let update = read_narrow(ANNOUNCEMENT.as_slice()).ok_or("not read")?;
+    let message = ANNOUNCEMENT;
+    let Some(update) = read_narrow(&message) else {
+        return Err("not read".into());
+    };
     assert_eq!(rt; update.attrs.len(), 25);
     assert_eq!(rt; update.origin, 0);
     assert_eq!(rt; update.path, [0xfd, 0xe9].as_slice());
@@ -66,7 +69,10 @@ fn any_other_octet_is_refused(rt: HostRuntime) -> Result<(), Fail> {
 #[test]
 fn updates_are_written(rt: HostRuntime) -> Result<(), Fail> {
     let prefix = Prefix::new(0xcb007100, 24).ok_or("no prefix")?;
-    let update = read_narrow(ANNOUNCEMENT.as_slice()).ok_or("not read")?;
+    let message = ANNOUNCEMENT;
+    let Some(update) = read_narrow(&message) else {
+        return Err("not read".into());
+    };
     let mut out = [0; MOST_OCTETS];
     assert_eq!(rt;
         write_update(&[], update.attrs, &[prefix], &mut out),
