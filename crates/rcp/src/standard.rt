@@ -1,5 +1,6 @@
-// A reader and a writer as a source and a sink. They tell no octets: what a file or a terminal gives and takes isn't
-// known to any proof.
+//! A reader and a writer as a source and a sink. They tell no octets: what a file or a terminal gives and takes isn't
+//! known to any proof.
+
 ghost use Rattle.std.specs.Prelude.{◌≡◌, None, true};
 
 use outside::{Failed, Sink, Source};

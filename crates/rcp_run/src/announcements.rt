@@ -1,4 +1,5 @@
-// What the routers announce: a map from router and prefix to route, as a list.
+//! What the routers announce: a map from router and prefix to route, as a list.
+
 ghost use Rattle.std.specs.Prelude.{◌≡◌, ◌<◌, ◌≤◌, length, IfSome, IsTrue};
 
 use rcp_base::{NoMemory, Prefix, Slot};

@@ -1,4 +1,5 @@
-// Costs of walks over the interior network's edges (RFC 2328 section 16.1), by relaxation.
+//! Costs of walks over the interior network's edges (RFC 2328 section 16.1), by relaxation.
+
 ghost use Rattle.std.specs.Prelude.{◌<◌, length, IfSome};
 
 use rcp_base::{NoMemory, RouterId};

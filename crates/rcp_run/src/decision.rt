@@ -1,13 +1,14 @@
-// The decision process (RFC 4271 section 9.1). For a router and a prefix it looks at the routes that the routers within
-// reach announce, and keeps
-//
-// 1. those of the highest LOCAL_PREF (section 9.1.1),
-// 2. of these, those of the shortest AS_PATH (section 9.1.2.2, a),
-// 3. of these, those of the lowest ORIGIN (b),
-// 4. of these, those for which no route from the same neighbouring AS has a lower MULTI_EXIT_DISC (c).
-//
-// A router whose own route is left keeps it. Else it gets the route of the router that is nearest to it (e), and of two
-// that are equally near, the one with the lower BGP Identifier (f).
+//! The decision process (RFC 4271 section 9.1). For a router and a prefix it looks at the routes that the routers within
+//! reach announce, and keeps
+//!
+//! 1. those of the highest LOCAL_PREF (section 9.1.1),
+//! 2. of these, those of the shortest AS_PATH (section 9.1.2.2, a),
+//! 3. of these, those of the lowest ORIGIN (b),
+//! 4. of these, those for which no route from the same neighbouring AS has a lower MULTI_EXIT_DISC (c).
+//!
+//! A router whose own route is left keeps it. Else it gets the route of the router that is nearest to it (e), and of two
+//! that are equally near, the one with the lower BGP Identifier (f).
+
 ghost use Rattle.std.specs.Prelude.{◌≡◌, ◌≤◌, ◌&&◌, ◌==◌, not, nat_le, nat_lt, length, filter, IfOk, IfSome};
 ghost use Rattle.std.specs.List.{list_all};
 

@@ -1,11 +1,12 @@
-// The route control server on plain lists. It keeps what the routers announce, which prefixes are pending, and what
-// each connected router was told.
-//
-// | Record | What becomes pending |
-// |---|---|
-// | a router connects | each prefix that some router announces |
-// | an UPDATE | each of its prefixes whose announcement changes |
-// | a drain | nothing: each pending prefix is decided for each connected router |
+//! The route control server on plain lists. It keeps what the routers announce, which prefixes are pending, and what
+//! each connected router was told.
+//!
+//! | Record | What becomes pending |
+//! |---|---|
+//! | a router connects | each prefix that some router announces |
+//! | an UPDATE | each of its prefixes whose announcement changes |
+//! | a drain | nothing: each pending prefix is decided for each connected router |
+
 ghost use Rattle.std.specs.Prelude.{◌≡◌, ◌≤◌, length, vec_len, IfSome};
 
 use crate::announcements::{Announcement, announce};

@@ -1,4 +1,5 @@
-// The records of a feed, read one after the other.
+//! The records of a feed, read one after the other.
+
 ghost use Rattle.std.specs.Prelude.{◌≡◌, ◌+◌, ◌*◌, ◌^◌, ◌<◌, ◌≤◌, OnOk, OnErr, IfOk, IfErr, IfSome, length, vec_len};
 ghost use Rattle.outside.specs.Told.{Rose, NeverFalls};
 ghost use Rattle.rcp_run.specs.Answers.{HasCause};

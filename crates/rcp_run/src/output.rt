@@ -1,4 +1,5 @@
-// The records that are written, and their octets: a kind, a source and the body behind its length.
+//! The records that are written, and their octets: a kind, a source and the body behind its length.
+
 ghost use Rattle.std.specs.Prelude.{◌≡◌, ◌^◌, ◌<◌, ◌≤◌, length};
 
 use bgp_msg::{MOST_OCTETS, write_update};

@@ -1,4 +1,5 @@
-// Sets of prefixes, as strictly rising lists.
+//! Sets of prefixes, as strictly rising lists.
+
 ghost use Rattle.std.specs.Prelude.{◌≤◌, vec_len};
 
 use crate::announcements::Announcement;

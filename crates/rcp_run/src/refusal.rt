@@ -1,4 +1,5 @@
-// Why a record wasn't taken.
+//! Why a record wasn't taken.
+
 ghost use Rattle.std.specs.Prelude.{◌≡◌};
 ghost use Rattle.rcp_run.specs.declared.refusal.Refusal.TheVariants.{Memory};
 

@@ -1,4 +1,5 @@
-// The run of a program, from its words to its status.
+//! The run of a program, from its words to its status.
+
 ghost use Rattle.std.specs.Prelude.{◌≡◌, ◌≢◌, ◌↔◌, ◌<◌, [], ◌∷◌, map, codes, IfSome, IfNone, IfErr, IsTrue};
 ghost use Rattle.outside.specs.Told.{Rose, NeverFalls};
 ghost use Rattle.rcp_run.specs.Answers.{HasCause};
@@ -15,7 +16,11 @@ use std::thread::Threads;
 /// Runs the command that the words name, over this source and this sink. It waits for nobody and always returns.
 ///
 /// `replay` reads a feed and writes its output records. The output of a record is written whole before the next record
-/// is read, and no octet behind the record Z is read.
+/// is read, and no octet behind the record Z is read. `Done` comes at Z. `Feed` comes at the first record that isn't of
+/// the form, `Read` and `Write` where the source or the sink failed, and `NoMemory` where memory was refused; what the
+/// records before call for was written then.
+///
+/// `rt` is the leave to start threads, which no command takes yet.
 pub fn run<R: Threads + Sync, S: Source, K: Sink>(
     rt: &R,
     alloc: Global,

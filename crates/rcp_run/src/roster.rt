@@ -1,5 +1,6 @@
-// The roster: the routers that the platform speaks for, and the settings of its sessions. Its text is read in one form:
-// the lines `as`, `id`, `shards`, `hold` and `area`, then one or more of `router`, then any number of `link`.
+//! The roster: the routers that the platform speaks for, and the settings of its sessions. Its text is read in one form:
+//! the lines `as`, `id`, `shards`, `hold` and `area`, then one or more of `router`, then any number of `link`.
+
 ghost use Rattle.std.specs.Prelude.{◌≡◌, ◌+◌, ◌<◌, ◌≤◌, length, vec_len, IfSome};
 
 use crate::refusal::Refusal;

@@ -1,4 +1,5 @@
-// The route of an UPDATE.
+//! The route of an UPDATE.
+
 ghost use Rattle.std.specs.Prelude.{◌≡◌, ◌≤◌, length, IfOk};
 
 use crate::announcements::MOST_ATTRS;

@@ -1,4 +1,5 @@
-// What `run` answers.
+//! What `run` answers.
+
 ghost use Rattle.std.specs.Prelude.{◌≡◌};
 
 use std::fmt;

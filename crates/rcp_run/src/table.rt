@@ -1,4 +1,5 @@
-// What a router was told: a map from prefix to attribute octets, as a list.
+//! What a router was told: a map from prefix to attribute octets, as a list.
+
 ghost use Rattle.std.specs.Prelude.{◌<◌, length, IfSome};
 
 use rcp_base::{NoMemory, Prefix};
