@@ -1,5 +1,8 @@
 -- The faults that a BGP speaker tells in a NOTIFICATION (RFC 4271, sections 4.5 and 6).
-use Rattle.std.specs.Prelude.{ℕ, List, [], ◌∷◌}
+use Rattle.std.specs.Prelude.{ℕ, ◌+◌, ◌≤◌, List, [], ◌∷◌, length, take, drop}
+use Rattle.std.specs.Int.{w16, to_be_bytes}
+use Rattle.bgp_fault.specs.declared.Data.{Data}
+use Rattle.bgp_fault.specs.declared.Data.TheVariants as extra
 
 -- the code and subcode of each
 abbrev pub fault_rows : List (ℕ × ℕ)
@@ -8,3 +11,17 @@ fault_rows =
     ∷ (2, 0) ∷ (2, 1) ∷ (2, 2) ∷ (2, 3) ∷ (2, 4) ∷ (2, 6)
     ∷ (3, 1) ∷ (3, 2) ∷ (3, 3) ∷ (3, 4) ∷ (3, 5) ∷ (3, 6) ∷ (3, 8) ∷ (3, 9) ∷ (3, 10) ∷ (3, 11)
     ∷ (4, 0) ∷ (5, 0) ∷ (6, 0) ∷ []
+
+-- the octets that the data of a fault is, a span naming octets of `body`
+abbrev pub data_octets : List ℕ → Data → List ℕ
+data_octets body extra.None = []
+data_octets body (extra.Octet n) = n ∷ []
+data_octets body (extra.Pair n) = to_be_bytes w16 n
+data_octets body (extra.Span start len) = take len (drop start body)
+
+-- a span names octets that `body` has
+abbrev pub IsWithin : List ℕ → Data → Type 0
+IsWithin body (extra.Span start len) = start + len ≤ length body
+IsWithin body extra.None = Unit {0}
+IsWithin body (extra.Octet n) = Unit {0}
+IsWithin body (extra.Pair n) = Unit {0}

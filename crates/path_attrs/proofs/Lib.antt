@@ -1,0 +1,5 @@
+pub mod Pieces
+pub mod Cutting
+pub mod Paths
+pub mod Written
+pub mod FlagBits

@@ -1,0 +1,36 @@
+//! ORIGIN: where a route came from (RFC 4271, section 5.1.1).
+
+ghost use Rattle.std.specs.Prelude.{◌≡◌, ◌≤◌, ◌<◌, ◌↔◌, MatchOption};
+ghost use Rattle.path_attrs.specs.Origins.{origin_octet};
+
+/// Where a route came from.
+#[derive(Clone, Copy, Debug, PartialEq, Eq)]
+pub enum Origin {
+    /// From inside the AS.
+    Igp = 0,
+    /// By the protocol EGP.
+    Egp = 1,
+    /// By other means.
+    Incomplete = 2,
+}
+
+impl Origin {
+    /// The origin of an octet, or None where it is above 2.
+    pub fn from_octet(octet: u8) -> Option<Origin>
+        ensures { MatchOption result (2 < octet) (λ origin. origin_octet origin ≡ octet) }
+    {
+        match octet {
+            0 => Some(Origin::Igp),
+            1 => Some(Origin::Egp),
+            2 => Some(Origin::Incomplete),
+            _ => None,
+        }
+    }
+
+    /// The octet of an origin.
+    pub fn octet(self) -> u8
+        ensures { result ≡ origin_octet self }
+    {
+        self as u8
+    }
+}
