@@ -3,3 +3,9 @@ pub mod Cutting
 pub mod Paths
 pub mod Written
 pub mod FlagBits
+pub mod Inserting
+pub mod Types
+pub mod Judging
+pub mod Faultless
+pub mod Refusing
+pub mod Values

@@ -5,4 +5,5 @@ pub mod Aggregators
 pub mod Segments
 pub mod Refusals
 pub mod Shown
+pub mod Lists
 pub mod Readings

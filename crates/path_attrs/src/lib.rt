@@ -18,9 +18,9 @@ mod unrecognised;
 mod value;
 mod writing;
 
-//pub use attrs::{Attrs, has_route};
-//pub use reading::read;
-//pub use refusal::AttrRefusal;
+pub use attrs::{Attrs, has_route};
+pub use reading::read;
+pub use refusal::AttrRefusal;
 //pub use routes::route;
 //pub use writing::write;
 
