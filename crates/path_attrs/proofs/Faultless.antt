@@ -170,7 +170,7 @@ header_long flags kind len = elim (cases_Bool (leb len 255)) [
   | inr long ↦ rw long refl
 ]
 
-attribute_long : (a : Attribute) → length (attribute_octets a) ≡ (if leb (length a.value) 255 then 3 else 4) + length a.value
+pub attribute_long : (a : Attribute) → length (attribute_octets a) ≡ (if leb (length a.value) 255 then 3 else 4) + length a.value
 attribute_long a =
     ap length (attribute_octets-parts a) ∙ length-append (header_octets a.flags a.kind (length a.value)) a.value
     ∙ ap (λ (n : ℕ). n + length a.value) (header_long a.flags a.kind (length a.value))

@@ -9,3 +9,4 @@ pub mod Judging
 pub mod Faultless
 pub mod Refusing
 pub mod Values
+pub mod Canonical

@@ -67,7 +67,7 @@ pub fn find(values: &[Value], kind: u8) -> Option<&Value>
 }
 
 /// The place of a type among values of rising types.
-fn place_of(values: &[Value], kind: u8) -> usize
+pub fn place_of(values: &[Value], kind: u8) -> usize
     ensures fits { result ≤ length values.now }
     ensures place { (a : Attribute) → a.kind ≡ kind → insert_by_type a (all_shown values.now)
         ≡ take result (all_shown values.now) ++ a ∷ drop result (all_shown values.now) }
