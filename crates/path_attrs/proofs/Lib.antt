@@ -10,3 +10,5 @@ pub mod Faultless
 pub mod Refusing
 pub mod Values
 pub mod Canonical
+pub mod Words
+pub mod Hops

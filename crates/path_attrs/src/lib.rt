@@ -21,8 +21,8 @@ mod writing;
 pub use attrs::{Attrs, has_route};
 pub use reading::read;
 pub use refusal::AttrRefusal;
-//pub use routes::route;
-//pub use writing::write;
+pub use routes::route;
+pub use writing::write;
 
 #[cfg(test)]
 mod tests;

@@ -1,13 +1,14 @@
 //! AS_PATH: the ASes that a route has passed, in segments (RFC 4271, section 4.3).
 
-ghost use Rattle.std.specs.Prelude.{◌≡◌, ◌+◌, ◌<◌, ◌≤◌, ◌∷◌, ◌++◌, ◌%◌, true, false, ◌^◌, length, IfOk, IfErr, OnOk, IsTrue, MatchOption};
+ghost use Rattle.std.specs.Prelude.{◌≡◌, ◌+◌, ◌<◌, ◌≤◌, [], ◌∷◌, ◌++◌, ◌%◌, true, false, ◌^◌, length, ◌==◌, sum_by, IfOk, IfErr, OnOk, IsTrue, MatchOption};
 ghost use Rattle.std.specs.Int.{byte_len};
-ghost use Rattle.std.specs.List.{flat_map};
+ghost use Rattle.std.specs.List.{flat_map, list_any};
 ghost use Rattle.rcp_model.specs.Attributes.{is_faulty_path, numbers_in, segments_in};
 ghost use Rattle.rcp_model.specs.Messages.{is_outside};
 ghost use Rattle.path_attrs.specs.Appending.{Appends};
 ghost use Rattle.path_attrs.specs.Segments.{kind_octet, segment_octets, path_octets};
 ghost use Rattle.path_attrs.specs.Refusals.{IfFault, malformed_path};
+ghost use Rattle.rcp_model.specs.Routes.{hops_of, neighbour_of};
 ghost use Rattle.path_attrs.specs.Width.{number_width, number_octets};
 
 use crate::numbers::{AsNumber, NUMBER_LEN, put_number, split_number};
@@ -215,4 +216,74 @@ fn put_numbers(out: &mut [u8], at: usize, numbers: &[AsNumber]) -> usize
         end = put_number(out, end, *number);
     }
     end
+}
+
+impl Path {
+    /// The segments.
+    pub fn segments(&self) -> &[Segment]
+        ensures segments { result.now ≡ self.now }
+        ensures read { segments_in number_width (path_octets self.now) ≡ self.now }
+    {
+        self.segments.as_slice()
+    }
+}
+
+impl Segment {
+    /// How long the segment counts (RFC 4271, section 9.1.2.2): each number of a sequence one, a set one.
+    fn hops(&self) -> u32
+        ensures { result ≡ hops_of self.now }
+    {
+        match self.kind {
+            SegmentKind::AsSet => 1,
+            SegmentKind::AsSequence => self.numbers.len() as u32,
+        }
+    }
+
+    /// The first number of a sequence, else the local AS.
+    fn neighbour(&self, local_as: u32) -> u32
+        ensures { result ≡ neighbour_of local_as (self.now ∷ []) }
+    {
+        match self.kind {
+            SegmentKind::AsSet => local_as,
+            SegmentKind::AsSequence => match self.numbers.as_slice() {
+                [first, ..] => u32::from(*first),
+                [] => local_as,
+            },
+        }
+    }
+
+    /// Whether an AS stands in the segment.
+    fn has(&self, as_number: u32) -> bool
+        ensures { result ≡ list_any (λ n. n == as_number) self.now.numbers }
+    {
+        self.numbers
+            .as_slice()
+            .iter()
+            .any(|number| u32::from(*number) == as_number)
+    }
+}
+
+/// How long a path counts in the decision (RFC 4271, section 9.1.2.2).
+pub fn hops(segments: &[Segment]) -> u32
+    requires { sum_by hops_of segments.now < 2 ^ 32 }
+    ensures { result ≡ sum_by hops_of segments.now }
+{
+    segments.iter().map(|segment| segment.hops()).sum()
+}
+
+/// The AS that the route was learned from: the first number of a path that begins with a sequence, else the local AS.
+pub fn neighbour(segments: &[Segment], local_as: u32) -> u32
+    ensures { result ≡ neighbour_of local_as segments.now }
+{
+    match segments {
+        [first, ..] => first.neighbour(local_as),
+        [] => local_as,
+    }
+}
+
+/// Whether an AS stands in a path (RFC 4271, section 9.1.2).
+pub fn passes(segments: &[Segment], as_number: u32) -> bool
+    ensures { result ≡ list_any (λ segment. list_any (λ n. n == as_number) segment.numbers) segments.now }
+{
+    segments.iter().any(|segment| segment.has(as_number))
 }

@@ -11,7 +11,7 @@ use crate::table::LOCAL_PREF;
 use crate::value::Value;
 
 /// LOCAL_PREF where it is absent.
-const DEFAULT_PREF: u32 = 100;
+pub const DEFAULT_PREF: u32 = 100;
 
 /// Puts values one after another, and gives the place behind them.
 fn put_values(out: &mut [u8], at: usize, values: &[Value]) -> usize
