@@ -94,7 +94,7 @@ pub parts_long : (vs : List Value) (place : ℕ) → IsKept (all_shown vs)
     → length (octets_of (all_shown (take place vs))) + length (octets_of (all_shown (drop place vs))) ≤ 4073
 parts_long vs place kept =
     let parted : octets_of (all_shown vs) ≡ octets_of (all_shown (take place vs)) ++ octets_of (all_shown (drop place vs)) =
-      ap (λ (ws : List Value). octets_of (all_shown ws)) (sym (take-append-drop place vs)) ∙ ap octets_of (map-append shown (take place vs) (drop place vs)) ∙ flat_map-append attribute_octets (all_shown (take place vs)) (all_shown (drop place vs)) in
+    ap (λ (ws : List Value). octets_of (all_shown ws)) (sym (take-append-drop place vs)) ∙ ap octets_of (map-append shown (take place vs) (drop place vs)) ∙ flat_map-append attribute_octets (all_shown (take place vs)) (all_shown (drop place vs)) in
     omega (arith, ap length parted, length-append (octets_of (all_shown (take place vs))) (octets_of (all_shown (drop place vs))), kept.short)
 
 pub default_short : (there : Bool) → length (default_octets there) ≤ 7

@@ -34,10 +34,10 @@ rises-insert low a (b ∷ bs) up le fresh =
     elim (cases_lt b.kind a.kind) [
       | inl lt ↦ ap (types_rise_from low) (insert-below a b bs lt) ∙ rw parts.0 (rises-insert (b.kind + 1) a bs parts.1 (omega arith) new.1)
       | inr ge ↦
-        (let apart = eqb-false b.kind a.kind new.0 in
-        let first : leb low a.kind ≡ true = le-leb _ _ le in
-        let second : leb (a.kind + 1) b.kind ≡ true = le-leb _ _ (omega arith) in
-        ap (types_rise_from low) (insert-above a b bs ge) ∙ rw (first, second) parts.1)
+          (let apart = eqb-false b.kind a.kind new.0 in
+          let first : leb low a.kind ≡ true = le-leb _ _ le in
+          let second : leb (a.kind + 1) b.kind ≡ true = le-leb _ _ (omega arith) in
+          ap (types_rise_from low) (insert-above a b bs ge) ∙ rw (first, second) parts.1)
     ]
 
 rises-by_type : (xs : List Attribute) → Distinct xs → types_rise (by_type xs) ≡ true
@@ -94,8 +94,8 @@ apart_from kinds (piece ∷ pieces) ok kind there =
     elim (cases_eq (slice_index piece 1) kind) [
       | inl same ↦ absurd (false≢true (sym fresh ∙ ap (λ (n : ℕ). list_any (λ k. eqb k n) kinds) same ∙ there))
       | inr other ↦
-        (let differs : eqb (slice_index piece 1) kind ≡ false = grind (arith, nat_tests) in
-        rw differs (apart_from (slice_index piece 1 ∷ kinds) pieces ok.1 kind (rw (there, differs) refl)))
+          (let differs : eqb (slice_index piece 1) kind ≡ false = grind (arith, nat_tests) in
+          rw differs (apart_from (slice_index piece 1 ∷ kinds) pieces ok.1 kind (rw (there, differs) refl)))
     ]
 
 pub distinct : (kinds : List ℕ) (pieces : List (List ℕ)) → Faultless kinds pieces → Distinct (map attribute_of pieces)
@@ -184,16 +184,16 @@ written_long piece is =
     let mine = attribute_long (written (attribute_of piece)) in
     elim (cases_lt 255 v) [
       | inl over ↦
-        (let test : leb v 255 ≡ false = lt-leb _ _ over in
-        let four : length (attribute_octets (written (attribute_of piece))) ≡ 4 + v = mine ∙ rw test refl in
-        elim (header_kinds piece is) [
-          | inl two ↦ omega (arith, two.0)
-          | inr one ↦ absurd (omega (arith, one.1))
-        ])
+          (let test : leb v 255 ≡ false = lt-leb _ _ over in
+          let four : length (attribute_octets (written (attribute_of piece))) ≡ 4 + v = mine ∙ rw test refl in
+          elim (header_kinds piece is) [
+            | inl two ↦ omega (arith, two.0)
+            | inr one ↦ absurd (omega (arith, one.1))
+          ])
       | inr under ↦
-        (let test : leb v 255 ≡ true = le-leb _ _ under in
-        let three_more : length (attribute_octets (written (attribute_of piece))) ≡ 3 + v = mine ∙ rw test refl in
-        omega (arith, value_place-bounds piece))
+          (let test : leb v 255 ≡ true = le-leb _ _ under in
+          let three_more : length (attribute_octets (written (attribute_of piece))) ≡ 3 + v = mine ∙ rw test refl in
+          omega (arith, value_place-bounds piece))
     ]
 
 -- ---- all attributes
@@ -202,10 +202,10 @@ length_insert : (a : Attribute) (bs : List Attribute) → length (octets_of (ins
 length_insert a [] = length-append (attribute_octets a) []
 length_insert a (b ∷ bs) = elim (cases_lt b.kind a.kind) [
   | inl lt ↦
-    (let e = ap (λ (xs : List Attribute). length (octets_of xs)) (insert-below a b bs lt) in
-    omega (arith, e, length_insert a bs, length-append (attribute_octets b) (octets_of (insert_by_type a bs)), length-append (attribute_octets b) (octets_of bs)))
+      (let e = ap (λ (xs : List Attribute). length (octets_of xs)) (insert-below a b bs lt) in
+      omega (arith, e, length_insert a bs, length-append (attribute_octets b) (octets_of (insert_by_type a bs)), length-append (attribute_octets b) (octets_of bs)))
   | inr ge ↦
-    ap (λ (xs : List Attribute). length (octets_of xs)) (insert-above a b bs ge) ∙ length-append (attribute_octets a) (octets_of (b ∷ bs))
+      ap (λ (xs : List Attribute). length (octets_of xs)) (insert-above a b bs ge) ∙ length-append (attribute_octets a) (octets_of (b ∷ bs))
 ]
 
 length_by_type : (bs : List Attribute) → length (octets_of (by_type bs)) ≡ length (octets_of bs)

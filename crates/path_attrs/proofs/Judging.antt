@@ -54,8 +54,8 @@ value_fault-is body start len a = elim (cases_Bool (eqb a.kind ORIGIN)) [
     | inr other2 ↦ elim (cases_Bool (eqb a.kind NEXT_HOP)) [
       | inl is ↦ rw (other, other2, is) refl
       | inr other3 ↦ rw (other, other2, other3) refl
-      ]
     ]
+  ]
 ]
 
 -- the fault of a whole attribute is that its type is there already, or its own
@@ -70,8 +70,8 @@ attribute_fault-is body start len kinds =
     let seen = list_any (λ kind. eqb kind a.kind) kinds in
     chain (list_any (λ kind. eqb kind a.kind) kinds) (is_recognised a.kind) (is_optional a.flags) (has_other_category a) (has_other_length number_width a) (has_faulty_value number_width a) (fault 3 1 []) (fault 3 2 piece) (fault 3 4 piece) (fault 3 5 piece) (value_fault a piece)
     ∙ ap (λ (t : Option FaultOf). cond seen (Some (fault 3 1 [])) t)
-      (rw (value_fault-is body start len a)
-      (mapped (is_recognised a.kind) (is_optional a.flags) (has_other_category a) (has_other_length number_width a) (has_faulty_value number_width a) (fault_in body) (update_fault 2 span) (update_fault 4 span) (update_fault 5 span) (faulty_value a.kind span)))
+    (rw (value_fault-is body start len a)
+    (mapped (is_recognised a.kind) (is_optional a.flags) (has_other_category a) (has_other_length number_width a) (has_faulty_value number_width a) (fault_in body) (update_fault 2 span) (update_fault 4 span) (update_fault 5 span) (faulty_value a.kind span)))
 
 -- ---- its place
 
@@ -172,14 +172,16 @@ reading-goes_on body place len seen done now some none all octet =
     let parts = cond_none _ malformed_list (own_fault a (Span place len)) (sym (next_fault-whole body place len seen some) ∙ none) in
     let fresh : has_kind kind done ≡ false = sym (now.marked kind octet) ∙ parts.0 in
     let new_type : list_any (λ k. eqb k kind) now.kinds ≡ false = now.kinds_are kind ∙ fresh in
-    let faultless : attribute_fault number_width now.kinds (piece_at body place len) ≡ None = attribute_fault-is body place len now.kinds ∙ rw (new_type, parts.1) refl in
-    (record {
-      kinds = kind ∷ now.kinds;
-      judged = now.judged ∙ list_fault-whole body place len now.kinds some ∙ rw faultless refl;
-      are_read = now.are_read ∙ ap (λ (more : List Attribute). done ++ more) (attributes_in-whole body place len some) ∙ sym (append_assoc done (a ∷ []) (attributes_in (drop (place + len) body)));
-      kinds_are = λ k. ap (λ (t : Bool). eqb kind k || t) (now.kinds_are k) ∙ sym (has_kind-push k done a);
-      marked = λ k small. marks seen kind k (has_kind k done) (omega arith) (now.marked k small) ∙ sym (has_kind-push k done a);
-    }, fresh)
+    let faultless : attribute_fault number_width now.kinds (piece_at body place len) ≡ None = attribute_fault-is body place len now.kinds ∙ rw (new_type, parts.1) refl in (
+      record {
+        kinds = kind ∷ now.kinds;
+        judged = now.judged ∙ list_fault-whole body place len now.kinds some ∙ rw faultless refl;
+        are_read = now.are_read ∙ ap (λ (more : List Attribute). done ++ more) (attributes_in-whole body place len some) ∙ sym (append_assoc done (a ∷ []) (attributes_in (drop (place + len) body)));
+        kinds_are = λ k. ap (λ (t : Bool). eqb kind k || t) (now.kinds_are k) ∙ sym (has_kind-push k done a);
+        marked = λ k small. marks seen kind k (has_kind k done) (omega arith) (now.marked k small) ∙ sym (has_kind-push k done a);
+      },
+      fresh,
+    )
 
 some_is : {X : Type 0} (x y : X) → Some x ≡ Some y → x ≡ y
 some_is x y same = cc
@@ -202,17 +204,17 @@ faulty_value-within body kind span within = elim (cases_Bool (eqb kind ORIGIN)) 
     | inr other2 ↦ elim (cases_Bool (eqb kind NEXT_HOP)) [
       | inl is ↦ rw (other, other2, is) within
       | inr other3 ↦ rw (other, other2, other3) within
-      ]
     ]
+  ]
 ]
 
 own_fault-within : (body : List ℕ) (a : Attribute) (span : Data) (found : Fault) → IsWithin body span → own_fault a span ≡ Some found → IsWithin body found.extra
 own_fault-within body a span found within is = elim (cases_Bool (is_recognised a.kind)) [
   | inl known ↦
-    cond_within body (has_other_category a) (update_fault 4 span) found _ within
-    (cond_within body (has_other_length number_width a) (update_fault 5 span) found _ within
-    (cond_within body (has_faulty_value number_width a) (faulty_value a.kind span) found None (faulty_value-within body a.kind span within) (λ nothing. absurd cc)))
-    (rw known at is)
+      cond_within body (has_other_category a) (update_fault 4 span) found _ within
+      (cond_within body (has_other_length number_width a) (update_fault 5 span) found _ within
+      (cond_within body (has_faulty_value number_width a) (faulty_value a.kind span) found None (faulty_value-within body a.kind span within) (λ nothing. absurd cc)))
+      (rw known at is)
   | inr unknown ↦ not_optional (is_optional a.flags) (rw unknown at is)
 ]
   where
@@ -229,8 +231,9 @@ module _ (body : List ℕ) (place : ℕ) (seen : List Bool) (done : List Attribu
       let same : malformed_list ≡ found = some_is malformed_list found (rw (none, next_fault) at is) in
       let left : eqb (length (drop place body)) 0 ≡ false = grind (arith, nat_tests, length-drop place body) in
       let told : list_fault number_width now.kinds (cut attribute_size (drop place body)).0 (cut attribute_size (drop place body)).1 ≡ Some (fault_in body malformed_list) =
-        ap (λ (parts : List (List ℕ) × List ℕ). list_fault number_width now.kinds parts.0 parts.1) (cut-none attribute_size (drop place body) none) ∙ rw left refl in
+      ap (λ (parts : List (List ℕ) × List ℕ). list_fault number_width now.kinds parts.0 parts.1) (cut-none attribute_size (drop place body) none) ∙ rw left refl in
       subst (λ (h : Fault). (list_fault number_width now.kinds (cut attribute_size (drop place body)).0 (cut attribute_size (drop place body)).1 ≡ Some (fault_in body h)) × IsWithin body h.extra) same (told, tt)
+
   stops-whole : (len : ℕ) → attribute_size (drop place body) ≡ Some len → next_fault body place seen ≡ Some found
       → (list_fault number_width now.kinds (cut attribute_size (drop place body)).0 (cut attribute_size (drop place body)).1 ≡ Some (fault_in body found)) × IsWithin body found.extra
   stops-whole len some is =
@@ -245,12 +248,12 @@ module _ (body : List ℕ) (place : ℕ) (seen : List Bool) (done : List Attribu
       let new_type : list_any (λ k. eqb k kind) now.kinds ≡ slice_index_or seen kind false = now.kinds_are kind ∙ sym (now.marked kind small) in
       elim (cond_some _ malformed_list found (own_fault a (Span place len)) (sym (next_fault-whole body place len seen some) ∙ is)) [
         | inl (there, same) ↦
-          (let told : attribute_fault number_width now.kinds (piece_at body place len) ≡ Some (fault 3 1 []) = own ∙ rw (new_type, there) refl in
-          subst (λ (h : Fault). (list_fault number_width now.kinds (cut attribute_size (drop place body)).0 (cut attribute_size (drop place body)).1 ≡ Some (fault_in body h)) × IsWithin body h.extra) same
-          (whole ∙ rw told refl, tt))
+            (let told : attribute_fault number_width now.kinds (piece_at body place len) ≡ Some (fault 3 1 []) = own ∙ rw (new_type, there) refl in
+            subst (λ (h : Fault). (list_fault number_width now.kinds (cut attribute_size (drop place body)).0 (cut attribute_size (drop place body)).1 ≡ Some (fault_in body h)) × IsWithin body h.extra) same
+            (whole ∙ rw told refl, tt))
         | inr (absent, mine) ↦
-          (let told : attribute_fault number_width now.kinds (piece_at body place len) ≡ Some (fault_in body found) = own ∙ rw (new_type, absent, mine) refl in
-          (whole ∙ rw told refl, own_fault-within body a (Span place len) found within mine))
+            (let told : attribute_fault number_width now.kinds (piece_at body place len) ≡ Some (fault_in body found) = own ∙ rw (new_type, absent, mine) refl in
+            (whole ∙ rw told refl, own_fault-within body a (Span place len) found within mine))
       ]
 
   pub reading-stops : next_fault body place seen ≡ Some found

@@ -123,6 +123,7 @@ faulty_front octets long why = ap (is_faulty_path number_width) (front_is octets
     bad kind count rest fits (inl outside) = rw outside refl
     bad kind count rest fits (inr (inl none)) = let zero_is : count ≡ 0 = omega arith in rw (zero_is, or-true) refl
     bad kind count rest fits (inr (inr short)) = absurd (omega arith)
+
     faulty : (kind count : ℕ) (rest : List ℕ) → (is_outside 1 2 kind ≡ true) ⊎ ((count * 2 ≡ 0) ⊎ (length rest < count * 2)) → is_faulty_path number_width (kind ∷ count ∷ rest) ≡ true
     faulty kind count rest why =
         elim (cases_lt (length rest) (count * 2)) [

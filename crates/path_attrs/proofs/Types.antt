@@ -61,28 +61,28 @@ insert-insert a b [] apart = elim (cases_lt a.kind b.kind) [
 insert-insert a b (c ∷ cs) apart = elim (cases_lt c.kind a.kind) [
   | inl ca ↦ elim (cases_lt c.kind b.kind) [
     | inl cb ↦
-      ap (insert_by_type a) (insert-below b c cs cb) ∙ insert-below a c (insert_by_type b cs) ca
-      ∙ ap (λ (xs : List Attribute). c ∷ xs) (insert-insert a b cs apart)
-      ∙ sym (ap (insert_by_type b) (insert-below a c cs ca) ∙ insert-below b c (insert_by_type a cs) cb)
+        ap (insert_by_type a) (insert-below b c cs cb) ∙ insert-below a c (insert_by_type b cs) ca
+        ∙ ap (λ (xs : List Attribute). c ∷ xs) (insert-insert a b cs apart)
+        ∙ sym (ap (insert_by_type b) (insert-below a c cs ca) ∙ insert-below b c (insert_by_type a cs) cb)
     | inr bc ↦
-      ap (insert_by_type a) (insert-above b c cs bc) ∙ insert-below a b (c ∷ cs) (omega arith)
-      ∙ ap (λ (xs : List Attribute). b ∷ xs) (insert-below a c cs ca)
-      ∙ sym (ap (insert_by_type b) (insert-below a c cs ca) ∙ insert-above b c (insert_by_type a cs) bc)
-    ]
+        ap (insert_by_type a) (insert-above b c cs bc) ∙ insert-below a b (c ∷ cs) (omega arith)
+        ∙ ap (λ (xs : List Attribute). b ∷ xs) (insert-below a c cs ca)
+        ∙ sym (ap (insert_by_type b) (insert-below a c cs ca) ∙ insert-above b c (insert_by_type a cs) bc)
+  ]
   | inr ac ↦ elim (cases_lt c.kind b.kind) [
     | inl cb ↦
-      ap (insert_by_type a) (insert-below b c cs cb) ∙ insert-above a c (insert_by_type b cs) ac
-      ∙ sym (ap (insert_by_type b) (insert-above a c cs ac) ∙ insert-below b a (c ∷ cs) (omega arith) ∙ ap (λ (xs : List Attribute). a ∷ xs) (insert-below b c cs cb))
+        ap (insert_by_type a) (insert-below b c cs cb) ∙ insert-above a c (insert_by_type b cs) ac
+        ∙ sym (ap (insert_by_type b) (insert-above a c cs ac) ∙ insert-below b a (c ∷ cs) (omega arith) ∙ ap (λ (xs : List Attribute). a ∷ xs) (insert-below b c cs cb))
     | inr bc ↦ elim (cases_lt b.kind a.kind) [
       | inl ba ↦
-        ap (insert_by_type a) (insert-above b c cs bc) ∙ insert-below a b (c ∷ cs) ba ∙ ap (λ (xs : List Attribute). b ∷ xs) (insert-above a c cs ac)
-        ∙ sym (ap (insert_by_type b) (insert-above a c cs ac) ∙ insert-above b a (c ∷ cs) (omega arith))
+          ap (insert_by_type a) (insert-above b c cs bc) ∙ insert-below a b (c ∷ cs) ba ∙ ap (λ (xs : List Attribute). b ∷ xs) (insert-above a c cs ac)
+          ∙ sym (ap (insert_by_type b) (insert-above a c cs ac) ∙ insert-above b a (c ∷ cs) (omega arith))
       | inr ab ↦
-        (let lt : a.kind < b.kind = omega arith in
-        ap (insert_by_type a) (insert-above b c cs bc) ∙ insert-above a b (c ∷ cs) ab
-        ∙ sym (ap (insert_by_type b) (insert-above a c cs ac) ∙ insert-below b a (c ∷ cs) lt ∙ ap (λ (xs : List Attribute). a ∷ xs) (insert-above b c cs bc)))
-      ]
+          (let lt : a.kind < b.kind = omega arith in
+          ap (insert_by_type a) (insert-above b c cs bc) ∙ insert-above a b (c ∷ cs) ab
+          ∙ sym (ap (insert_by_type b) (insert-above a c cs ac) ∙ insert-below b a (c ∷ cs) lt ∙ ap (λ (xs : List Attribute). a ∷ xs) (insert-above b c cs bc)))
     ]
+  ]
 ]
 
 -- an attribute of a new type at the end

@@ -14,13 +14,13 @@ value_of-insert kind a (b ∷ bs) = elim (cases_lt b.kind a.kind) [
   | inr ge ↦ ap (value_of kind) (insert-above a b bs ge)
   | inl lt ↦ ap (value_of kind) (insert-below a b bs lt) ∙ elim (cases_eq b.kind kind) [
     | inl here ↦
-      (let mine : eqb b.kind kind ≡ true = grind (arith, nat_tests) in
-      let other : eqb a.kind kind ≡ false = grind (arith, nat_tests) in
-      rw (mine, other) refl)
+        (let mine : eqb b.kind kind ≡ true = grind (arith, nat_tests) in
+        let other : eqb a.kind kind ≡ false = grind (arith, nat_tests) in
+        rw (mine, other) refl)
     | inr apart ↦
-      (let other : eqb b.kind kind ≡ false = grind (arith, nat_tests) in
-      rw other (value_of-insert kind a bs))
-    ]
+        (let other : eqb b.kind kind ≡ false = grind (arith, nat_tests) in
+        rw other (value_of-insert kind a bs))
+  ]
 ]
 
 value_of-by_type : (kind : ℕ) (bs : List Attribute) → value_of kind (by_type bs) ≡ value_of kind bs
@@ -31,15 +31,15 @@ value_of-passed_on : (kind : ℕ) (bs : List Attribute) → is_recognised kind �
 value_of-passed_on kind [] known = refl
 value_of-passed_on kind (b ∷ bs) known = elim (cases_eq b.kind kind) [
   | inl here ↦
-    (let mine : eqb b.kind kind ≡ true = grind (arith, nat_tests) in
-    let kept : is_kept b ≡ true = rw (here, known) refl in
-    rw (kept, mine) refl)
+      (let mine : eqb b.kind kind ≡ true = grind (arith, nat_tests) in
+      let kept : is_kept b ≡ true = rw (here, known) refl in
+      rw (kept, mine) refl)
   | inr apart ↦
-    (let other : eqb b.kind kind ≡ false = grind (arith, nat_tests) in
-    elim (cases_Bool (is_kept b)) [
-      | inl kept ↦ rw (kept, other) (value_of-passed_on kind bs known)
-      | inr dropped ↦ rw (dropped, other) (value_of-passed_on kind bs known)
-    ])
+      (let other : eqb b.kind kind ≡ false = grind (arith, nat_tests) in
+      elim (cases_Bool (is_kept b)) [
+        | inl kept ↦ rw (kept, other) (value_of-passed_on kind bs known)
+        | inr dropped ↦ rw (dropped, other) (value_of-passed_on kind bs known)
+      ])
 ]
 
 pub value_of-sent_on : (kind : ℕ) (bs : List Attribute) → is_recognised kind ≡ true → value_of kind (sent_on bs) ≡ value_of kind bs

@@ -48,10 +48,10 @@ faulty_value kind span =
 abbrev pub own_fault : Attribute → Data → Option Fault
 own_fault a span =
     if is_recognised a.kind
-      then (if has_other_category a then Some (update_fault 4 span) else (
-            if has_other_length number_width a then Some (update_fault 5 span) else (
-            if has_faulty_value number_width a then Some (faulty_value a.kind span) else None)))
-      else (if is_optional a.flags then None else Some (update_fault 2 span))
+    then (if has_other_category a then Some (update_fault 4 span) else (
+    if has_other_length number_width a then Some (update_fault 5 span) else (
+    if has_faulty_value number_width a then Some (faulty_value a.kind span) else None)))
+    else (if is_optional a.flags then None else Some (update_fault 2 span))
 
 -- whether the types that have come are those of a list
 abbrev pub Matches : List Bool → List ℕ → Type 0
@@ -71,8 +71,8 @@ next_fault body place seen = elim (attribute_size (drop place body)) [
   | None ↦ Some malformed_list
   | Some len ↦
       if slice_index_or seen (slice_index (piece_at body place len) 1) false
-        then Some malformed_list
-        else own_fault (attribute_of (piece_at body place len)) (Span place len)
+      then Some malformed_list
+      else own_fault (attribute_of (piece_at body place len)) (Span place len)
 ]
 
 -- what stands at a place is an attribute of so many octets, its type is marked, and this is sent on of it

@@ -25,8 +25,8 @@ impl Model for Attrs {
     ghost use Rattle.rcp_model.specs.Attributes.{Attribute};
     ghost use Rattle.path_attrs.specs.Lists.{IsKept};
     ghost use Rattle.path_attrs.specs.Lists.{IsKept};
-ghost use Rattle.path_attrs.specs.Readings.{all_inserted, maybe_shown};
-ghost use Rattle.path_attrs.specs.Shown.{all_shown};
+    ghost use Rattle.path_attrs.specs.Readings.{all_inserted, maybe_shown};
+    ghost use Rattle.path_attrs.specs.Shown.{all_shown};
 
     ghost Value = { List Attribute };
 

@@ -32,9 +32,9 @@ use crate::table::{
 use crate::unrecognised::Unrecognised;
 use crate::value::Value;
 use bgp_fault::{
-    ATTRIBUTE_FLAGS_ERROR, ATTRIBUTE_LENGTH_ERROR, Data, INVALID_NEXT_HOP_ATTRIBUTE, INVALID_ORIGIN_ATTRIBUTE, MALFORMED_ATTRIBUTE_LIST, MISSING_WELL_KNOWN_ATTRIBUTE,
-    OPTIONAL_ATTRIBUTE_ERROR,
-    UNRECOGNIZED_WELL_KNOWN_ATTRIBUTE,
+    ATTRIBUTE_FLAGS_ERROR, ATTRIBUTE_LENGTH_ERROR, Data, INVALID_NEXT_HOP_ATTRIBUTE,
+    INVALID_ORIGIN_ATTRIBUTE, MALFORMED_ATTRIBUTE_LIST, MISSING_WELL_KNOWN_ATTRIBUTE,
+    OPTIONAL_ATTRIBUTE_ERROR, UNRECOGNIZED_WELL_KNOWN_ATTRIBUTE,
 };
 use case_table::{Row, Table, cases};
 use rcp_base::Addr;
@@ -256,11 +256,7 @@ fn read_next(
 }
 
 /// The values of a list of attributes, in order of type. `seen` has no type marked at first.
-fn read_list(
-    alloc: Global,
-    body: &[u8],
-    seen: &mut [bool; 256],
-) -> Result<Vec<Value>, AttrRefusal>
+fn read_list(alloc: Global, body: &[u8], seen: &mut [bool; 256]) -> Result<Vec<Value>, AttrRefusal>
     requires short { length body.now ≤ 4073 }
     requires types { length seen.old ≡ 256 }
     requires unmarked { IsTrue (list_all not seen.old) }

@@ -23,7 +23,9 @@ pub const AGGREGATOR: u8 = 7;
 pub const COMMUNITIES: u8 = 8;
 
 const WELL_KNOWN: u16 = TRANSITIVE as u16;
+
 const OPTIONAL_ONLY: u16 = OPTIONAL as u16;
+
 const OPTIONAL_TRANSITIVE: u16 = CATEGORY as u16;
 
 /// The length of an attribute that may have any.

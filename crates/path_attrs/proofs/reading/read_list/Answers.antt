@@ -40,12 +40,13 @@ loop-place-preserved c =
     let a = attribute_of (piece_at c.args.body.now c.loop-place.place c.in_ok-value.len) in
     let bytes : IsBytes c.args.body.now = λ k. omega (arith, c.type_inv.body k) in
     let octet : slice_index (piece_at c.args.body.now c.loop-place.place c.in_ok-value.len) 1 < 256 = IsBytes-take c.in_ok-value.len _ (IsBytes-drop c.loop-place.place c.args.body.now bytes) 1 in
-    let step = reading-goes_on c.args.body.now c.loop-place.place c.in_ok-value.len c.loop-place.seen now.0 now.1 next.whole c.in_ok-value.ensures.faultless now.3 octet in
-    ( now.0 ++ a ∷ []
-    , rw next.marked step.0
-    , c.in_ok-insert_some.ensures ∙ ap (λ (bs : List Attribute). all_inserted bs (all_shown c.loop-place.values.items)) next.sent ∙ ap (all_inserted (passed_on (a ∷ []))) now.2 ∙ sym (sent_on-push now.0 a step.1)
-    , c.in_ok-value.ensures.types
-    , omega (arith, (sized _ _ next.whole).fits, length-drop c.loop-place.place c.args.body.now, c.loop-place-test.true) )
+    let step = reading-goes_on c.args.body.now c.loop-place.place c.in_ok-value.len c.loop-place.seen now.0 now.1 next.whole c.in_ok-value.ensures.faultless now.3 octet in (
+      now.0 ++ a ∷ [],
+      rw next.marked step.0,
+      c.in_ok-insert_some.ensures ∙ ap (λ (bs : List Attribute). all_inserted bs (all_shown c.loop-place.values.items)) next.sent ∙ ap (all_inserted (passed_on (a ∷ []))) now.2 ∙ sym (sent_on-push now.0 a step.1),
+      c.in_ok-value.ensures.types,
+      omega (arith, (sized _ _ next.whole).fits, length-drop c.loop-place.place c.args.body.now, c.loop-place-test.true),
+    )
 
 pub returns-clause-faultless : goal.returns-clause-faultless
 returns-clause-faultless c =
