@@ -21,6 +21,7 @@ mod prefixes;
 mod refusal;
 mod replay;
 mod roster;
+mod roster_text;
 mod routes;
 mod status;
 mod table;
