@@ -152,8 +152,9 @@ drained_server platform = after_all (domain_of platform.roster) (work_events pla
 abbrev pub drain_messages : Platform → List OutRecord
 drain_messages platform = drained platform.server.touched platform.server (drained_server platform) platform.connections
 
+-- the count of UPDATEs stands still at the greatest that eight octets hold
 abbrev pub drain : Platform → Platform
-drain platform = record platform { server = drained_server platform; updates = platform.updates + length (drain_messages platform) }
+drain platform = record platform { server = drained_server platform; updates = min (platform.updates + length (drain_messages platform)) (2 ^ 64 - 1) }
 
 -- The platform after a record, and what is put out for it. A record that says nothing here changes nothing.
 unfoldable pub step : Platform → FeedRecord → Platform
