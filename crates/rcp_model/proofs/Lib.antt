@@ -14,6 +14,7 @@ pub mod RunLemmas
 pub mod MeaningLemmas
 pub mod CandidateLemmas
 pub mod FilterLemmas
+pub mod GraphLemmas
 pub mod MemberLemmas
 pub mod WalkLemmas
 pub mod CodecLemmas

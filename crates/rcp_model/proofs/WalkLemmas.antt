@@ -9,7 +9,7 @@ use Rattle.rcp_model.specs.Costs.{Walk, stay, step, IsCost, lesser, joined, edge
 
 -- ---- some cost of at most a number
 
-abbrev Within : Option ℕ → ℕ → Type 0
+abbrev pub Within : Option ℕ → ℕ → Type 0
 Within o n = IsSomeAnd o (λ m. m ≤ n)
 
 Within-more : (a : Option ℕ) (m n : ℕ) → Within a m → m ≤ n → Within a n
@@ -64,11 +64,11 @@ Within-or a b n h = elim (Within-cases b a b n h) [ inl h ↦ h | inr parts ↦ 
 
 -- ---- walks
 
-Walk-then : {edges : List Edge} {u w v m n : ℕ} → Walk edges u w m → Walk edges w v n → Walk edges u v (m + n)
+pub Walk-then : {edges : List Edge} {u w v m n : ℕ} → Walk edges u w m → Walk edges w v n → Walk edges u v (m + n)
 Walk-then (stay u) walk = rw zero-add walk
 Walk-then (step edge w sum member rest) walk = rw add_assoc (step edge _ _ member (Walk-then rest walk))
 
-Walk-edge : (edges : List Edge) (edge : Edge) → Contains edges edge → Walk edges edge.from edge.to edge.cost
+pub Walk-edge : (edges : List Edge) (edge : Edge) → Contains edges edge → Walk edges edge.from edge.to edge.cost
 Walk-edge edges edge member = rw add-zero at (step edge edge.to 0 member (stay edge.to))
 
 IfSome-weaker : {P Q : ℕ → Type 0} (o : Option ℕ) → ((n : ℕ) → P n → Q n) → IfSome o P → IfSome o Q

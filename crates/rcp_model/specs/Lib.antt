@@ -8,6 +8,7 @@ pub mod Updates
 pub mod LinkState
 pub mod Edges
 pub mod Costs
+pub mod Graphs
 pub mod Decision
 pub mod Control
 pub mod Feed
