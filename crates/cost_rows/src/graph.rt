@@ -41,10 +41,8 @@ impl Graph {
     pub fn try_clone(&self) -> Result<Graph, NoMemory>
         ensures { IfOk result (λ copy. copy ≡ self.now) }
     {
-        match self.edges.clone() {
-            Ok(edges) => Ok(Graph { edges }),
-            Err(_) => Err(NoMemory),
-        }
+        let edges = self.edges.clone()?;
+        Ok(Graph { edges })
     }
 
     /// Puts an edge in, unless it is there already. The edge costs at most 65,535, and the graph has at most 2,560
@@ -107,10 +105,8 @@ fn include(edges: &mut Vec<Edge>, edge: Edge) -> Result<(), NoMemory>
     let Err(place) = find(edges.as_slice(), &edge) else {
         return Ok(());
     };
-    match edges.insert(place, edge) {
-        Ok(()) => Ok(()),
-        Err(_) => Err(NoMemory),
-    }
+    edges.insert(place, edge)?;
+    Ok(())
 }
 
 /// Takes an edge out of a rising list.

@@ -13,10 +13,7 @@ fn ends(alloc: Global, edges: &[Edge]) -> Result<Vec<RouterId>, NoMemory>
 {
     let starts = edges.iter().map(|edge| edge.from);
     let ends = edges.iter().map(|edge| edge.to);
-    match starts.chain(ends).collect(alloc) {
-        Ok(ends) => Ok(ends),
-        Err(_) => Err(NoMemory),
-    }
+    Ok(starts.chain(ends).collect(alloc)?)
 }
 
 /// Sorts names, and leaves each once.
@@ -40,9 +37,7 @@ pub fn names_of(
     ensures more { IfOk result (λ names. (router : ℕ) → Contains more.now router → Contains names.items router) }
 {
     let mut names = ends(alloc, graph.edges())?;
-    let Ok(()) = names.extend_from_slice(more) else {
-        return Err(NoMemory);
-    };
+    names.extend_from_slice(more)?;
     sort(&mut names);
     Ok(names)
 }

@@ -82,9 +82,7 @@ fn relax(
     let place = place_of(names, edge.to);
     let through = cost + edge.cost;
     if is_lower(through, least[place]) {
-        let Ok(()) = waiting.push((Reverse(through), edge.to)) else {
-            return Err(NoMemory);
-        };
+        waiting.push((Reverse(through), edge.to))?;
         least[place] = Some(through);
     }
     Ok(())
@@ -143,10 +141,7 @@ fn finish(
 fn nothing_found(alloc: Global, names: &[RouterId]) -> Result<Vec<Option<u32>>, NoMemory>
     ensures { IfOk result (λ least. least.items ≡ nothing_found names.now) }
 {
-    match names.iter().map(|_| None).collect(alloc) {
-        Ok(least) => Ok(least),
-        Err(_) => Err(NoMemory),
-    }
+    Ok(names.iter().map(|_| None).collect(alloc)?)
 }
 
 /// The least costs from a root, each at the place of its router.
@@ -162,9 +157,7 @@ fn least_costs(
 {
     let mut least = nothing_found(alloc, names)?;
     let mut waiting = BinaryHeap::new(alloc);
-    let Ok(()) = waiting.push((Reverse(0), root)) else {
-        return Err(NoMemory);
-    };
+    waiting.push((Reverse(0), root))?;
     let place = place_of(names, root);
     least[place] = Some(0);
     finish(graph, names, &mut least, &mut waiting)?;
@@ -197,10 +190,6 @@ fn pairs(
     let pairs = names
         .iter()
         .zip(least)
-        .filter_map(|(name, cost)| cost.map(|cost| (*name, cost)))
-        .collect(alloc);
-    match pairs {
-        Ok(pairs) => Ok(pairs),
-        Err(_) => Err(NoMemory),
-    }
+        .filter_map(|(name, cost)| cost.map(|cost| (*name, cost)));
+    Ok(pairs.collect(alloc)?)
 }

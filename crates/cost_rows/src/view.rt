@@ -63,9 +63,7 @@ fn rows_of(
     let mut rows = Vec::new(alloc);
     for member in members {
         let pairs = row(alloc, graph, names, member.router)?;
-        let Ok(()) = rows.push(Row { pairs }) else {
-            return Err(NoMemory);
-        };
+        rows.push(Row { pairs })?;
     }
     Ok(rows)
 }
@@ -74,10 +72,7 @@ fn rows_of(
 fn routers_of(alloc: Global, members: &[Member]) -> Result<Vec<RouterId>, NoMemory>
     ensures { IfOk result (λ routers. routers.items ≡ map (λ member. member.router) members.now) }
 {
-    match members.iter().map(|member| member.router).collect(alloc) {
-        Ok(routers) => Ok(routers),
-        Err(_) => Err(NoMemory),
-    }
+    Ok(members.iter().map(|member| member.router).collect(alloc)?)
 }
 
 /// A graph and the members of a roster, with the costs between them. Contracts see the record of edges and members.
@@ -111,13 +106,8 @@ impl View {
         let routers = routers_of(alloc, members)?;
         let names = names_of(alloc, &graph, routers.as_slice())?;
         let rows = rows_of(alloc, members, &graph, names.as_slice())?;
-        let Ok(members) = Vec::from_slice(alloc, members) else {
-            return Err(NoMemory);
-        };
-        match Arc::new(alloc, View { members, graph, rows }) {
-            Ok(view) => Ok(view),
-            Err(_) => Err(NoMemory),
-        }
+        let members = Vec::from_slice(alloc, members)?;
+        Ok(Arc::new(alloc, View { members, graph, rows })?)
     }
 
     pub fn graph(&self) -> &Graph
