@@ -1,5 +1,5 @@
 -- The routers at the ends of edges, as names.
-use Rattle.std.proofs.Common.{◌≡◌, ◌≢◌, ℕ, zero, suc, ◌+◌, ◌≤◌, ◌⊎◌, List, [], ◌∷◌, ◌++◌, map, length, Contains, AllPairs, refl, sym, ap, subst, ◌∙◌, inl, inr, arith, length-append}
+use Rattle.std.proofs.Common.{◌≡◌, ℕ, ◌≤◌, ◌⊎◌, List, [], ◌∷◌, ◌++◌, map, length, Contains, subst, inl, inr, arith, length-append}
 use Rattle.std.specs.List.Sorted.{IsStrictlyIncreasing}
 use Rattle.std.proofs.lemmas.List.Elements.{Contains-append_left, Contains-append_right, Contains-append_cases}
 use Rattle.rcp_model.proofs.MemberLemmas.{Contains-head, Contains-tail, Contains-cases, Contains-none}
@@ -24,9 +24,10 @@ member_of_map f (x ∷ xs) y member = elim (Contains-cases (f x) (map f xs) y me
 ]
 
 pub ends_at : (edges : List Edge) (edge : Edge) → Contains edges edge → Contains (ends_of edges) edge.from × Contains (ends_of edges) edge.to
-ends_at edges edge member =
-    (Contains-append_left (map (λ (e : Edge). e.from) edges) (map (λ (e : Edge). e.to) edges) edge.from (map_member (λ (e : Edge). e.from) edges edge member),
-     Contains-append_right (map (λ (e : Edge). e.from) edges) (map (λ (e : Edge). e.to) edges) edge.to (map_member (λ (e : Edge). e.to) edges edge member))
+ends_at edges edge member = (
+  Contains-append_left (map (λ (e : Edge). e.from) edges) (map (λ (e : Edge). e.to) edges) edge.from (map_member (λ (e : Edge). e.from) edges edge member),
+  Contains-append_right (map (λ (e : Edge). e.from) edges) (map (λ (e : Edge). e.to) edges) edge.to (map_member (λ (e : Edge). e.to) edges edge member),
+)
 
 ends_routers : (edges : List Edge) (n : ℕ) → Contains (ends_of edges) n → Contains (routers_in edges) n
 ends_routers edges n member = elim (Contains-append_cases (map (λ (e : Edge). e.from) edges) (map (λ (e : Edge). e.to) edges) n member) [
@@ -36,15 +37,15 @@ ends_routers edges n member = elim (Contains-append_cases (map (λ (e : Edge). e
 
 -- names made of the ends and of more routers, and of no others
 pub names_are : (edges : List Edge) (more names : List ℕ) → IsGraph edges → length more ≤ 512 → IsStrictlyIncreasing names → ((n : ℕ) → Contains (ends_of edges ++ more) n → Contains names n)
-  → ((n : ℕ) → Contains names n → Contains (ends_of edges ++ more) n) → AreNames edges names
+    → ((n : ℕ) → Contains names n → Contains (ends_of edges ++ more) n) → AreNames edges names
 names_are edges more names graph few rising kept no_other = record {
-    rising = rising;
-    ends = λ edge member. let at = ends_at edges edge member in
+  rising = rising;
+  ends = λ edge member. let at = ends_at edges edge member in
       (kept edge.from (Contains-append_left (ends_of edges) more edge.from at.0), kept edge.to (Contains-append_left (ends_of edges) more edge.to at.1));
-    few =
+  few =
       let within = apart_within names (routers_in edges ++ more) (apart names rising) (λ n member. named n (Contains-append_cases (ends_of edges) more n (no_other n member))) in
       let routers = graph.few in
       omega (arith, within, length-append (routers_in edges) more, routers);
-  } where
+} where
   named : (n : ℕ) → Contains (ends_of edges) n ⊎ Contains more n → Contains (routers_in edges ++ more) n
   named n cases = elim cases [ inl end ↦ Contains-append_left (routers_in edges) more n (ends_routers edges n end) | inr further ↦ Contains-append_right (routers_in edges) more n further ]

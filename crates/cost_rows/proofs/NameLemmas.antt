@@ -1,12 +1,11 @@
 -- Names that rise, and what stands beside them.
-use Rattle.std.proofs.Common.{◌≡◌, ◌≢◌, ℕ, zero, suc, ◌+◌, ◌<◌, ◌≤◌, Bool, true, false, cond, ◌==◌, ◌⊎◌, List, [], ◌∷◌, length, get_or, set, Contains, AllPairs, Option, Some, None, Result, Ok, Err, MatchResult, slice_get, nat_cmp, refl, sym, ap, subst, ◌∙◌, inl, inr, arith, eqb-true, eq-eqb, ne_eqb}
+use Rattle.std.proofs.Common.{◌≡◌, ◌≢◌, ℕ, zero, suc, ◌<◌, ◌≤◌, Bool, true, false, cond, ◌==◌, ◌⊎◌, List, [], ◌∷◌, length, get_or, set, Contains, AllPairs, Option, Some, None, Result, Ok, Err, MatchResult, slice_get, nat_cmp, refl, sym, ap, subst, ◌∙◌, inl, inr, arith, eqb-true, eq-eqb, ne_eqb}
 use Rattle.std.specs.List.Sorted.{IsStrictlyIncreasing, IsBinarySearchResult}
-use Rattle.std.proofs.lemmas.Bool.{false≢true}
 use Rattle.std.proofs.lemmas.List.{get_or_default}
 use Rattle.std.proofs.lemmas.List.Kept.{AllPairs-from_increasing}
 use Rattle.std.proofs.lemmas.List.Sorted.{searched}
 use Rattle.std.proofs.lemmas.Option.{slice_get-get_or, slice_get_within, get_or_from_slice_get}
-use Rattle.rcp_model.proofs.MemberLemmas.{Contains-head, Contains-tail, Contains-cases, Contains-none}
+use Rattle.rcp_model.proofs.MemberLemmas.{Contains-head, Contains-tail}
 use Rattle.cost_rows.specs.Search.{found_at}
 
 -- ---- the place of a name
@@ -20,12 +19,13 @@ names_rise names rising i j le within = elim (cases i j le) [
   cases i j le = grind arith
 
 pub name_found : (names : List ℕ) (name : ℕ) (r : Result ℕ ℕ) → IsBinarySearchResult (λ y. nat_cmp y name) names r → IsStrictlyIncreasing names → Contains names name
-  → MatchResult r (λ place. slice_get names place ≡ Some name) (λ place. ⊥)
+    → MatchResult r (λ place. slice_get names place ≡ Some name) (λ place. ⊥)
 name_found names name r position rising member = of_search r (searched names name r position (names_rise names rising)) where
   cases : (k i : ℕ) → (k < i) ⊎ (i ≤ k)
   cases k i = grind arith
+
   of_search : (r : Result ℕ ℕ) → MatchResult r (λ i. (i < length names) × (get_or names i 0 ≡ name)) (λ i. (i ≤ length names) × ((k : ℕ) → k < i → get_or names k 0 < name) × ((k : ℕ) → i ≤ k → k < length names → name < get_or names k 0))
-    → MatchResult r (λ place. slice_get names place ≡ Some name) (λ place. ⊥)
+      → MatchResult r (λ place. slice_get names place ≡ Some name) (λ place. ⊥)
   of_search (Ok i) found = slice_get-get_or names i 0 found.0 ∙ ap Some found.1
   of_search (Err i) found =
       let at : get_or names member.0 0 ≡ name = get_or_default names member.0 0 name member.1 ∙ member.2 in
@@ -53,7 +53,7 @@ found-unnamed (name ∷ names) (found ∷ least) v unnamed =
     rw (ne_eqb name v (λ same. unnamed (subst (Contains (name ∷ names)) same (Contains-head name names)))) (found-unnamed names least v (λ member. unnamed (Contains-tail name names v member)))
 
 pub found-place : (names : List ℕ) (least : List (Option ℕ)) (place name : ℕ) → AllPairs (λ a b. a ≢ b) names → length least ≡ length names → slice_get names place ≡ Some name
-  → found_at names least name ≡ get_or least place None
+    → found_at names least name ≡ get_or least place None
 found-place [] least place name apart same at = absurd (none_some at) where
   none_some : None ≡ Some name → ⊥
   none_some e = cc
@@ -61,10 +61,10 @@ found-place (first ∷ names) [] place name apart same at = absurd (omega arith)
 found-place (first ∷ names) (found ∷ least) zero name apart same at = let is : first ≡ name = cc in rw (eq-eqb first name is) refl
 found-place (first ∷ names) (found ∷ least) (suc place) name apart same at =
     rw (ne_eqb first name (λ is. apart-head first names apart (subst (Contains names) (sym is) (place, slice_get_within names place name at, get_or_from_slice_get names place name name at))))
-      (found-place names least place name (apart-tail first names apart) (omega arith) at)
+    (found-place names least place name (apart-tail first names apart) (omega arith) at)
 
 pub found-set : (names : List ℕ) (least : List (Option ℕ)) (place name : ℕ) (new : Option ℕ) (v : ℕ) → AllPairs (λ a b. a ≢ b) names → length least ≡ length names → slice_get names place ≡ Some name
-  → found_at names (set least place new) v ≡ cond (name == v) new (found_at names least v)
+    → found_at names (set least place new) v ≡ cond (name == v) new (found_at names least v)
 found-set [] least place name new v apart same at = absurd (none_some at) where
   none_some : None ≡ Some name → ⊥
   none_some e = cc
@@ -75,8 +75,8 @@ found-set (first ∷ names) (found ∷ least) zero name new v apart same at = le
   by_test false = refl
 found-set (first ∷ names) (found ∷ least) (suc place) name new v apart same at =
     by_tests (first == v) (name == v) (eqb-true first v) (eqb-true name v) (found-set names least place name new v (apart-tail first names apart) (omega arith) at) where
-  by_tests : (s t : Bool) → (s ≡ true → first ≡ v) → (t ≡ true → name ≡ v) → found_at names (set least place new) v ≡ cond t new (found_at names least v)
-    → cond s found (found_at names (set least place new) v) ≡ cond t new (cond s found (found_at names least v))
-  by_tests true true is is' rest = absurd (apart-head first names apart (subst (Contains names) (is' refl ∙ sym (is refl)) (place, slice_get_within names place name at, get_or_from_slice_get names place name name at)))
-  by_tests true false is is' rest = refl
-  by_tests false t is is' rest = rest
+      by_tests : (s t : Bool) → (s ≡ true → first ≡ v) → (t ≡ true → name ≡ v) → found_at names (set least place new) v ≡ cond t new (found_at names least v)
+          → cond s found (found_at names (set least place new) v) ≡ cond t new (cond s found (found_at names least v))
+      by_tests true true is is' rest = absurd (apart-head first names apart (subst (Contains names) (is' refl ∙ sym (is refl)) (place, slice_get_within names place name at, get_or_from_slice_get names place name name at)))
+      by_tests true false is is' rest = refl
+      by_tests false t is is' rest = rest

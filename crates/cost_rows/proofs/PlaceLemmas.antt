@@ -1,5 +1,5 @@
 -- Places in rising lists of edges.
-use Rattle.std.proofs.Common.{◌≡◌, ◌≢◌, ℕ, zero, suc, ◌+◌, ◌<◌, ◌≤◌, Bool, true, false, ◌⊎◌, inl, inr, ◌||◌, ◌&&◌, cond, not, ◌==◌, nat_lt, List, [], ◌∷◌, ◌++◌, length, get_or, take, drop, filter, slice_get, Some, Contains, IsTrue, refl, sym, ap, subst, ◌∙◌, arith, get_or-drop, length-drop, eqb-true, ne_eqb, eq-eqb}
+use Rattle.std.proofs.Common.{◌≡◌, ◌≢◌, ℕ, zero, suc, ◌+◌, ◌<◌, ◌≤◌, Bool, true, false, ◌⊎◌, inl, inr, ◌||◌, ◌&&◌, not, ◌==◌, nat_lt, List, [], ◌∷◌, length, get_or, take, drop, filter, slice_get, Some, Contains, refl, sym, ap, subst, ◌∙◌, arith, get_or-drop, length-drop}
 use Rattle.std.specs.List.{AllWithin, insert, remove}
 use Rattle.std.specs.List.Sorted.{IsPartitionedBy}
 use Rattle.std.proofs.lemmas.Bool.{false≢true}
@@ -18,6 +18,7 @@ pub before_partitions : (edges : List Edge) → IsRising edges → (e : Edge) �
 before_partitions edges rising e i j d le within h = by_order (le_cases i j le) where
   le_cases : (i j : ℕ) → i ≤ j → (i ≡ j) ⊎ (i < j)
   le_cases i j le = grind arith
+
   by_order : (i ≡ j) ⊎ (i < j) → is_edge_before (get_or edges i d) e ≡ true
   by_order cases = elim cases [
     | inl same ↦ subst (λ k. is_edge_before (get_or edges k d) e ≡ true) (sym same) h
@@ -34,6 +35,7 @@ from_rises : (edges : List Edge) → IsRising edges → (i j : ℕ) (d : Edge) �
 from_rises edges rising i j d le within = by_order (le_cases i j le) where
   le_cases : (i j : ℕ) → i ≤ j → (i ≡ j) ⊎ (i < j)
   le_cases i j le = grind arith
+
   by_order : (i ≡ j) ⊎ (i < j) → (get_or edges i d).from ≤ (get_or edges j d).from
   by_order cases = elim cases [
     | inl same ↦ subst (λ k. (get_or edges i d).from ≤ (get_or edges k d).from) same (omega arith)
@@ -43,8 +45,8 @@ from_rises edges rising i j d le within = by_order (le_cases i j le) where
 pub starts_partition : (edges : List Edge) → IsRising edges → (v : ℕ) → IsPartitionedBy (λ edge. nat_lt edge.from v) edges
 starts_partition edges rising v i j d le within h = let rise = from_rises edges rising i j d le within in
     below (get_or edges i d).from (get_or edges j d).from v rise h where
-  below : (m n v : ℕ) → m ≤ n → nat_lt n v ≡ true → nat_lt m v ≡ true
-  below m n v le h = grind (arith, nat_tests)
+      below : (m n v : ℕ) → m ≤ n → nat_lt n v ≡ true → nat_lt m v ≡ true
+      below m n v le h = grind (arith, nat_tests)
 
 pub run_partitions : (edges : List Edge) → IsRising edges → (v start : ℕ) → AllWithin (λ edge. nat_lt edge.from v ≡ false) edges start (length edges) → IsPartitionedBy (λ edge. edge.from == v) (drop start edges)
 run_partitions edges rising v start above i j d le within h =
@@ -52,8 +54,8 @@ run_partitions edges rising v start above i j d le within h =
     let rise = from_rises edges rising (start + i) (start + j) d (omega arith) (omega arith) in
     let low = above (start + i) d (omega arith) (omega arith) in
     rw (get_or-drop start edges i d) (between (get_or edges (start + i) d).from (get_or edges (start + j) d).from v rise low (rw (get_or-drop start edges j d) at h)) where
-  between : (m n v : ℕ) → m ≤ n → nat_lt m v ≡ false → (n == v) ≡ true → (m == v) ≡ true
-  between m n v le low h = grind (arith, nat_tests)
+      between : (m n v : ℕ) → m ≤ n → nat_lt m v ≡ false → (n == v) ≡ true → (m == v) ≡ true
+      between m n v le low h = grind (arith, nat_tests)
 
 -- ---- parts that a test leaves
 
@@ -82,17 +84,17 @@ filter-take p zero xs within passes fails = sym (filter-none p xs fails)
 filter-take p (suc n) [] within passes fails = absurd (omega arith)
 filter-take p (suc n) (x ∷ xs) within passes fails =
     rw (passes 0 x (omega arith) (omega arith)) (ap (λ rest. x ∷ rest)
-      (filter-take p n xs (omega arith) (within-tail_from (λ x. p x ≡ true) x xs n passes) (within-tail (λ x. p x ≡ false) x xs n (length xs) fails)))
+    (filter-take p n xs (omega arith) (within-tail_from (λ x. p x ≡ true) x xs n passes) (within-tail (λ x. p x ≡ false) x xs n (length xs) fails)))
 
 -- the edges of one router stand together
 pub run_is : (edges : List Edge) (v start count : ℕ) → start ≤ length edges → count ≤ length (drop start edges) → AllWithin (λ edge. nat_lt edge.from v ≡ true) edges 0 start
-  → AllWithin (λ edge. (edge.from == v) ≡ true) (drop start edges) 0 count → AllWithin (λ edge. (edge.from == v) ≡ false) (drop start edges) count (length (drop start edges))
-  → take count (drop start edges) ≡ edges_from v edges
+    → AllWithin (λ edge. (edge.from == v) ≡ true) (drop start edges) 0 count → AllWithin (λ edge. (edge.from == v) ≡ false) (drop start edges) count (length (drop start edges))
+    → take count (drop start edges) ≡ edges_from v edges
 run_is edges v start count within count_within low equal others =
     filter-take (λ edge. edge.from == v) count (drop start edges) count_within equal others
     ∙ filter-drop (λ edge. edge.from == v) start edges within (λ k d at_least below. not_equal (get_or edges k d).from v (low k d at_least below)) where
-  not_equal : (m v : ℕ) → nat_lt m v ≡ true → (m == v) ≡ false
-  not_equal m v h = grind (arith, nat_tests)
+      not_equal : (m v : ℕ) → nat_lt m v ≡ true → (m == v) ≡ false
+      not_equal m v h = grind (arith, nat_tests)
 
 -- ---- an edge put in or taken out at its place
 
@@ -107,40 +109,42 @@ include_here e (x ∷ edges) rising member = elim (Contains-cases x edges e memb
   other x e before false same = same
 
 pub include_new : (e : Edge) (i : ℕ) (edges : List Edge) → i ≤ length edges → (Contains edges e → ⊥) → AllWithin (λ other. is_edge_before other e ≡ true) edges 0 i
-  → AllWithin (λ other. is_edge_before other e ≡ false) edges i (length edges) → include_edge e edges ≡ insert edges i e
+    → AllWithin (λ other. is_edge_before other e ≡ false) edges i (length edges) → include_edge e edges ≡ insert edges i e
 include_new e zero [] within absent before after = refl
 include_new e (suc i) [] within absent before after = absurd (omega arith)
 include_new e zero (x ∷ edges) within absent before after =
     let later : is_edge_before x e ≡ false = after 0 x (omega arith) (omega arith) in
     rw (other refl (same_edge e x) refl) (rw (first (same_edge x e) refl later) refl) where
-  other : e ≡ e → (t : Bool) → same_edge e x ≡ t → same_edge e x ≡ false
-  other u true same = absurd (absent (0, omega arith, sym (same-edge e x same)))
-  other u false same = same
-  first : (t : Bool) → same_edge x e ≡ t → is_edge_before x e ≡ false → is_edge_before e x ≡ true
-  first true same later = absurd (absent (0, omega arith, same-edge x e same))
-  first false same later = before-total x e same later
+      other : e ≡ e → (t : Bool) → same_edge e x ≡ t → same_edge e x ≡ false
+      other u true same = absurd (absent (0, omega arith, sym (same-edge e x same)))
+      other u false same = same
+
+      first : (t : Bool) → same_edge x e ≡ t → is_edge_before x e ≡ false → is_edge_before e x ≡ true
+      first true same later = absurd (absent (0, omega arith, same-edge x e same))
+      first false same later = before-total x e same later
 include_new e (suc i) (x ∷ edges) within absent before after =
     let first : is_edge_before x e ≡ true = before 0 x (omega arith) (omega arith) in
     rw (other first (same_edge e x) refl, before-not_back x e first)
-      (ap (λ rest. x ∷ rest) (include_new e i edges (omega arith) (λ member. absent (suc member.0, omega arith, member.2))
-        (within-tail_from (λ other. is_edge_before other e ≡ true) x edges i before) (within-tail (λ other. is_edge_before other e ≡ false) x edges i (length edges) after))) where
-  other : is_edge_before x e ≡ true → (t : Bool) → same_edge e x ≡ t → same_edge e x ≡ false
-  other first true same = absurd (false≢true (sym (before-itself x) ∙ subst (λ y. is_edge_before x y ≡ true) (same-edge e x same) first))
-  other first false same = same
+    (ap (λ rest. x ∷ rest) (include_new e i edges (omega arith) (λ member. absent (suc member.0, omega arith, member.2))
+    (within-tail_from (λ other. is_edge_before other e ≡ true) x edges i before) (within-tail (λ other. is_edge_before other e ≡ false) x edges i (length edges) after))) where
+      other : is_edge_before x e ≡ true → (t : Bool) → same_edge e x ≡ t → same_edge e x ≡ false
+      other first true same = absurd (false≢true (sym (before-itself x) ∙ subst (λ y. is_edge_before x y ≡ true) (same-edge e x same) first))
+      other first false same = same
 
 -- an edge that doesn't stand at its place isn't there
 pub absent_at : (e : Edge) (i : ℕ) (edges : List Edge) → IsRising edges → AllWithin (λ other. is_edge_before other e ≡ true) edges 0 i → AllWithin (λ other. is_edge_before other e ≡ false) edges i (length edges)
-  → (i < length edges → get_or edges i e ≢ e) → Contains edges e → ⊥
+    → (i < length edges → get_or edges i e ≢ e) → Contains edges e → ⊥
 absent_at e i edges rising before after other member = by_order (cases member.0 i) where
   cases : (k i : ℕ) → (k < i) ⊎ ((k ≡ i) ⊎ (i < k))
   cases k i = grind arith
+
   by_order : (member.0 < i) ⊎ ((member.0 ≡ i) ⊎ (i < member.0)) → ⊥
   by_order order = elim order [
     | inl less ↦ false≢true (sym (before-itself e) ∙ subst (λ x. is_edge_before x e ≡ true) member.2 (before member.0 e (omega arith) less))
     | inr rest ↦ elim rest [
-        | inl same ↦ other (omega arith) (ap (λ k. get_or edges k e) (sym same) ∙ member.2)
-        | inr more ↦ false≢true (sym (after i e (omega arith) (omega arith)) ∙ subst (λ x. is_edge_before (get_or edges i e) x ≡ true) member.2 (rising i member.0 e more member.1))
-      ]
+      | inl same ↦ other (omega arith) (ap (λ k. get_or edges k e) (sym same) ∙ member.2)
+      | inr more ↦ false≢true (sym (after i e (omega arith) (omega arith)) ∙ subst (λ x. is_edge_before (get_or edges i e) x ≡ true) member.2 (rising i member.0 e more member.1))
+    ]
   ]
 
 pub exclude_absent : (e : Edge) (edges : List Edge) → (Contains edges e → ⊥) → exclude_edge e edges ≡ edges
@@ -155,9 +159,9 @@ exclude_at e zero (x ∷ edges) rising within at =
     rw (ap (same_edge e) at ∙ same-itself e) (exclude_absent e edges (λ member. false≢true (sym (before-itself e) ∙ subst (λ y. is_edge_before y e ≡ true) at (rising-head x edges rising e member))))
 exclude_at e (suc i) (x ∷ edges) rising within at =
     rw (other (rising-head x edges rising e (i, omega arith, at)) (same_edge e x) refl) (ap (λ rest. x ∷ rest) (exclude_at e i edges (rising-tail x edges rising) (omega arith) at)) where
-  other : is_edge_before x e ≡ true → (t : Bool) → same_edge e x ≡ t → same_edge e x ≡ false
-  other first true same = absurd (false≢true (sym (before-itself x) ∙ subst (λ y. is_edge_before x y ≡ true) (same-edge e x same) first))
-  other first false same = same
+      other : is_edge_before x e ≡ true → (t : Bool) → same_edge e x ≡ t → same_edge e x ≡ false
+      other first true same = absurd (false≢true (sym (before-itself x) ∙ subst (λ y. is_edge_before x y ≡ true) (same-edge e x same) first))
+      other first false same = same
 
 -- ---- the same of an edge that was found at a place
 

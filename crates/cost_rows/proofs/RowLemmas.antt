@@ -1,6 +1,5 @@
 -- Rows of costs: the pairs of the routers that were reached.
-use Rattle.std.proofs.Common.{◌≡◌, ◌≢◌, ℕ, zero, suc, ◌+◌, ◌<◌, ◌≤◌, Bool, true, false, cond, ◌==◌, eqb, ◌⊎◌, List, [], ◌∷◌, length, get_or, Contains, AllPairs, Option, Some, None, option_map, filter_map, zip, refl, sym, ap, subst, ◌∙◌, inl, inr, arith, eqb-true, eq-eqb, ne_eqb}
-use Rattle.std.specs.List.Sorted.{IsStrictlyIncreasing}
+use Rattle.std.proofs.Common.{◌≡◌, ℕ, suc, ◌<◌, Bool, true, false, cond, ◌==◌, List, [], ◌∷◌, Contains, AllPairs, Option, Some, None, refl, sym, ap, subst, ◌∙◌, inl, inr, arith, eqb-true, eq-eqb, ne_eqb}
 use Rattle.std.proofs.lemmas.Bool.{false≢true}
 use Rattle.std.proofs.lemmas.List.Kept.{AllPairs-from_increasing, AllPairs-cons}
 use Rattle.rcp_model.proofs.MemberLemmas.{Contains-head, Contains-tail, Contains-cases, Contains-none}
@@ -10,7 +9,7 @@ use Rattle.rcp_model.specs.Maps.{get_at}
 use Rattle.rcp_model.specs.LinkState.{same_number}
 use Rattle.rcp_model.specs.Graphs.{IsCostRow}
 use Rattle.cost_rows.specs.Search.{found_at, reached, IsFound, AreNames}
-use Rattle.cost_rows.proofs.NameLemmas.{apart, found-unnamed}
+use Rattle.cost_rows.proofs.NameLemmas.{found-unnamed}
 
 -- the names of the pairs are names
 reached_named : (names : List ℕ) (least : List (Option ℕ)) (pair : ℕ × ℕ) → Contains (reached names least) pair → Contains names pair.0
@@ -34,8 +33,8 @@ reached_rise (name ∷ names) [] rising = λ i j d less within. absurd (omega ar
 reached_rise (name ∷ names) (None ∷ least) rising = reached_rise names least (rising-tail name names rising)
 reached_rise (name ∷ names) (Some cost ∷ least) rising =
     AllPairs-cons (λ (p q : ℕ × ℕ). p.0 < q.0) (name, cost) (reached names least)
-      (All-from_members (λ (q : ℕ × ℕ). name < q.0) (reached names least) (λ q member. rising-head name names rising q.0 (reached_named names least q member)))
-      (reached_rise names least (rising-tail name names rising))
+    (All-from_members (λ (q : ℕ × ℕ). name < q.0) (reached names least) (λ q member. rising-head name names rising q.0 (reached_named names least q member)))
+    (reached_rise names least (rising-tail name names rising))
 
 same-back : (m n : ℕ) → (m == n) ≡ (n == m)
 same-back m n = at_test (n == m) (eqb-true n m) (λ same. eq-eqb n m same) where
@@ -55,6 +54,6 @@ get-reached (name ∷ names) (Some cost ∷ least) v rising =
 
 pub row_is : (edges : List Edge) (names : List ℕ) (root : ℕ) (least : List (Option ℕ)) → AreNames edges names → IsFound edges names root least → IsCostRow edges root (reached names least)
 row_is edges names root least are found = record {
-    rising = reached_rise names least (AllPairs-from_increasing names are.rising);
-    exact = λ v. get-reached names least v (AllPairs-from_increasing names are.rising) ∙ found.exact v;
-  }
+  rising = reached_rise names least (AllPairs-from_increasing names are.rising);
+  exact = λ v. get-reached names least v (AllPairs-from_increasing names are.rising) ∙ found.exact v;
+}

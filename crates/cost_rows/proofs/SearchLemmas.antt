@@ -1,5 +1,5 @@
 -- A search: what an edge that is gone over leaves of its state, how it begins and how it ends.
-use Rattle.std.proofs.Common.{◌≡◌, ◌≢◌, ℕ, zero, suc, ◌+◌, ◌*◌, ◌^◌, ◌<◌, ◌≤◌, Bool, true, false, cond, ◌==◌, ◌⊎◌, List, [], ◌∷◌, length, get_or, set, Contains, AllPairs, IsPermutation, Option, Some, None, IfSome, IsSomeAnd, slice_get, sum_by, refl, sym, ap, subst, ◌∙◌, inl, inr, arith, eqb-true, eqb, eq-eqb, ne_eqb, length-set, take, ◌++◌, drop, drop-cons, add-one}
+use Rattle.std.proofs.Common.{◌≡◌, ◌≢◌, ℕ, zero, suc, ◌+◌, ◌*◌, ◌^◌, ◌<◌, ◌≤◌, Bool, true, false, cond, ◌==◌, ◌⊎◌, List, [], ◌∷◌, length, get_or, set, Contains, IsPermutation, Option, Some, None, IfSome, slice_get, sum_by, refl, sym, ap, subst, ◌∙◌, inl, inr, arith, eqb-true, eqb, eq-eqb, ne_eqb, length-set, take, ◌++◌, drop, drop-cons, add-one}
 use Rattle.std.specs.Option.{option_eq}
 use Rattle.std.proofs.lemmas.Bool.{false≢true, eqb-false}
 use Rattle.std.proofs.lemmas.List.Elements.{All-from_get_or, All-contains}
@@ -41,7 +41,7 @@ found_count-le least = omega (arith, sum_by-le counted 1 least (All-from_get_or 
   at_most_one (Some n) = omega arith
 
 pub sum_fits : (edges : List Edge) (names : List ℕ) (root : ℕ) (least : List (Option ℕ)) (waiting : List Waiting) (open_edges : List Edge) (router cost more : ℕ) → AreNames edges names
-  → IsSearch edges names root least waiting open_edges → found_at names least router ≡ Some cost → more ≤ 65535 → cost + more < 2 ^ 32
+    → IsSearch edges names root least waiting open_edges → found_at names least router ≡ Some cost → more ≤ 65535 → cost + more < 2 ^ 32
 sum_fits edges names root least waiting open_edges router cost more are search found cheap =
     let bound = search.bound router cost found in
     let few = are.few in
@@ -51,8 +51,7 @@ sum_fits edges names root least waiting open_edges router cost more are search f
 -- ---- an edge gone over
 
 module _ (edges : List Edge) (names : List ℕ) (root : ℕ) (are : AreNames edges names) (least : List (Option ℕ)) (waiting : List Waiting) (edge : Edge) (rest : List Edge) (cost : ℕ)
-  (member : Contains edges edge) (cheap : edge.cost ≤ 65535) (found : found_at names least edge.from ≡ Some cost) (search : IsSearch edges names root least waiting (edge ∷ rest)) where
-
+    (member : Contains edges edge) (cheap : edge.cost ≤ 65535) (found : found_at names least edge.from ≡ Some cost) (search : IsSearch edges names root least waiting (edge ∷ rest)) where
   pub record After (new_least : List (Option ℕ)) (new_waiting : List Waiting) : Type 0 where
     pub searched : IsSearch edges names root new_least new_waiting rest
     pub still : found_at names new_least edge.from ≡ Some cost
@@ -68,9 +67,9 @@ module _ (edges : List Edge) (names : List ℕ) (root : ℕ) (are : AreNames edg
       named = search.named;
       settled = λ e n inside at. elim (search.settled e n inside at) [
         | inl opened ↦ elim (Contains-cases edge rest e opened) [
-            | inl same ↦ inr (inr (settled_one e n same at))
-            | inr later ↦ inl later
-          ]
+          | inl same ↦ inr (inr (settled_one e n same at))
+          | inr later ↦ inl later
+        ]
         | inr other ↦ inr other
       ];
     };
@@ -123,6 +122,7 @@ module _ (edges : List Edge) (names : List ℕ) (root : ℕ) (are : AreNames edg
       no_fewer : (o : Option ℕ) → found_count new_least + counted o ≡ found_count least + 1 → (n : ℕ) → n + 65535 ≤ 65535 * found_count least → n + 65535 ≤ 65535 * found_count new_least
       no_fewer None count n bound = omega arith
       no_fewer (Some k) count n bound = omega arith
+
       at_end : (o : Option ℕ) → found_at names least edge.to ≡ o → (Within o (cost + edge.cost) → ⊥) → found_count new_least + counted o ≡ found_count least + 1 → (n : ℕ) → cost + edge.cost ≡ n → n + 65535 ≤ 65535 * found_count new_least
       at_end None at low count n is = let bound = search.bound edge.from cost found in omega (arith, bound, cheap)
       at_end (Some k) at low count n is = let bound = search.bound edge.to k at in let less : cost + edge.cost < k = above (cost + edge.cost) k low in omega (arith, bound, less)
@@ -133,36 +133,37 @@ module _ (edges : List Edge) (names : List ℕ) (root : ℕ) (are : AreNames edg
     low_named : (router c : ℕ) → Contains new_waiting (waits router c) → Contains names router
     low_named router c inside = elim (Contains-cases (waits edge.to (cost + edge.cost)) waiting (waits router c)
         (Contains-permutation new_waiting (waits edge.to (cost + edge.cost) ∷ waiting) (waits router c) (IsPermutation-sym _ new_waiting low.waiting_too) inside)) [
-      | inl same ↦ subst (Contains names) (ap (λ (w : Waiting). w.1) same) (are.ends edge member).1
-      | inr later ↦ search.named router c later
-    ]
+          | inl same ↦ subst (Contains names) (ap (λ (w : Waiting). w.1) same) (are.ends edge member).1
+          | inr later ↦ search.named router c later
+        ]
 
     low_settled : (e : Edge) (n : ℕ) → Contains edges e → found_at names new_least e.from ≡ Some n
-      → Contains rest e ⊎ (Contains new_waiting (waits e.from n) ⊎ Within (found_at names new_least e.to) (n + e.cost))
+        → Contains rest e ⊎ (Contains new_waiting (waits e.from n) ⊎ Within (found_at names new_least e.to) (n + e.cost))
     low_settled e n inside at = elim (decided edge.to e.from) [
       | inl same ↦
           let is : cost + edge.cost ≡ n = same_some (cost + edge.cost) n (found_at names new_least edge.to) new_to (ap (found_at names new_least) same ∙ at) in
           inr (inl (Contains-permutation (waits edge.to (cost + edge.cost) ∷ waiting) new_waiting (waits e.from n) low.waiting_too
-            (subst (λ k. Contains (waits edge.to (cost + edge.cost) ∷ waiting) (waits k n)) same
-              (subst (λ k. Contains (waits edge.to (cost + edge.cost) ∷ waiting) (waits edge.to k)) is (Contains-head (waits edge.to (cost + edge.cost)) waiting)))))
+          (subst (λ k. Contains (waits edge.to (cost + edge.cost) ∷ waiting) (waits k n)) same
+          (subst (λ k. Contains (waits edge.to (cost + edge.cost) ∷ waiting) (waits edge.to k)) is (Contains-head (waits edge.to (cost + edge.cost)) waiting)))))
       | inr other ↦
           let before = sym (new_same e.from other) ∙ at in
           elim (search.settled e n inside before) [
             | inl opened ↦ elim (Contains-cases edge rest e opened) [
-                | inl same ↦ inr (inr (the_edge e n same before))
-                | inr later ↦ inl later
-              ]
+              | inl same ↦ inr (inr (the_edge e n same before))
+              | inr later ↦ inl later
+            ]
             | inr more ↦ elim more [
-                | inl waiting_one ↦ inr (inl (in_new (waits e.from n) waiting_one))
-                | inr settled ↦ inr (inr (still_settled e n settled))
-              ]
+              | inl waiting_one ↦ inr (inl (in_new (waits e.from n) waiting_one))
+              | inr settled ↦ inr (inr (still_settled e n settled))
+            ]
           ]
     ] where
       the_edge : (e : Edge) (n : ℕ) → edge ≡ e → found_at names least e.from ≡ Some n → Within (found_at names new_least e.to) (n + e.cost)
       the_edge e n same at =
           let is : cost ≡ n = same_some cost n (found_at names least edge.from) found (ap (λ (x : Edge). found_at names least x.from) same ∙ at) in
           subst (λ k. Within (found_at names new_least e.to) (k + e.cost)) is (subst (λ (x : Edge). Within (found_at names new_least x.to) (cost + x.cost)) same
-            (subst (λ o. Within o (cost + edge.cost)) (sym new_to) (omega arith)))
+          (subst (λ o. Within o (cost + edge.cost)) (sym new_to) (omega arith)))
+
       still_settled : (e : Edge) (n : ℕ) → Within (found_at names least e.to) (n + e.cost) → Within (found_at names new_least e.to) (n + e.cost)
       still_settled e n settled = elim (decided edge.to e.to) [
         | inl same ↦
@@ -186,7 +187,7 @@ module _ (edges : List Edge) (names : List ℕ) (root : ℕ) (are : AreNames edg
       falls = falls (get_or least low.place None) low.lower (rw low.costs (sum_by-set weight least low.place (Some (cost + edge.cost)) None within)) (length_permutation (waits edge.to (cost + edge.cost) ∷ waiting) new_waiting low.waiting_too);
     } where
       falls : (o : Option ℕ) → (Within o (cost + edge.cost) → ⊥) → sum_by weight new_least + weight o ≡ sum_by weight least + (cost + edge.cost) → length new_waiting ≡ length (waits edge.to (cost + edge.cost) ∷ waiting)
-        → left new_least new_waiting ≤ left least waiting
+          → left new_least new_waiting ≤ left least waiting
       falls None low sums lengths = let h = fits in omega (arith, h)
       falls (Some k) low sums lengths = let less : cost + edge.cost < k = above (cost + edge.cost) k low in omega arith
 
@@ -208,19 +209,19 @@ pub edge_cheap : (edges : List Edge) (e : Edge) → IsGraph edges → Contains e
 edge_cheap edges e graph member = All-contains (λ (edge : Edge). edge.cost ≤ 65535) edges e graph.cheap member
 
 pub edge_fits : (edges : List Edge) (names : List ℕ) (root router cost i : ℕ) (least : List (Option ℕ)) (waiting : List Waiting) (items : List Edge) (e : Edge) → AreNames edges names → IsGraph edges → items ≡ edges_from router edges
-  → i < length items → e ≡ get_or items i e → found_at names least router ≡ Some cost → IsSearch edges names root least waiting (drop i items) → cost + e.cost < 2 ^ 32
+    → i < length items → e ≡ get_or items i e → found_at names least router ≡ Some cost → IsSearch edges names root least waiting (drop i items) → cost + e.cost < 2 ^ 32
 edge_fits edges names root router cost i least waiting items e are graph is within read found search =
     sum_fits edges names root least waiting (drop i items) router cost e.cost are search found (edge_cheap edges e graph (edge_at edges router i items e is within read).0)
 
 pub edge_done : (edges : List Edge) (names : List ℕ) (root router cost i : ℕ) (least : List (Option ℕ)) (waiting : List Waiting) (items : List Edge) (e : Edge) → AreNames edges names → IsGraph edges → items ≡ edges_from router edges
-  → i < length items → e ≡ get_or items i e → found_at names least router ≡ Some cost → IsSearch edges names root least waiting (drop i items)
-  → (new_least : List (Option ℕ)) (new_waiting : List Waiting) → IsRelaxed names e cost least waiting new_least new_waiting
-  → IsSearch edges names root new_least new_waiting (drop (i + 1) items) × (found_at names new_least router ≡ Some cost) × (left new_least new_waiting ≤ left least waiting)
+    → i < length items → e ≡ get_or items i e → found_at names least router ≡ Some cost → IsSearch edges names root least waiting (drop i items)
+    → (new_least : List (Option ℕ)) (new_waiting : List Waiting) → IsRelaxed names e cost least waiting new_least new_waiting
+    → IsSearch edges names root new_least new_waiting (drop (i + 1) items) × (found_at names new_least router ≡ Some cost) × (left new_least new_waiting ≤ left least waiting)
 edge_done edges names root router cost i least waiting items e are graph is within read found search new_least new_waiting step =
     let at = edge_at edges router i items e is within read in
     let front : drop i items ≡ e ∷ drop (i + 1) items = rw add-one (drop-cons items i e within ∙ ap (λ x. x ∷ drop (suc i) items) (sym read)) in
     let after = relaxed edges names root are least waiting e (drop (i + 1) items) cost at.0 (edge_cheap edges e graph at.0) (ap (found_at names least) at.1 ∙ found)
-      (subst (λ rest. IsSearch edges names root least waiting rest) front search) new_least new_waiting step in
+    (subst (λ rest. IsSearch edges names root least waiting rest) front search) new_least new_waiting step in
     (after.searched, ap (found_at names new_least) (sym at.1) ∙ after.still, after.falls)
 
 -- ---- a router taken out
@@ -232,8 +233,7 @@ remains : (waiting left_over : List Waiting) (w : Waiting) → IsPermutation wai
 remains waiting left_over w moved other inside = Contains-permutation (w ∷ left_over) waiting other (IsPermutation-sym waiting (w ∷ left_over) moved) (Contains-tail w left_over other inside)
 
 module _ (edges : List Edge) (names : List ℕ) (root : ℕ) (least : List (Option ℕ)) (waiting left_over : List Waiting) (router cost : ℕ)
-  (search : IsSearch edges names root least waiting []) (moved : IsPermutation waiting (waits router cost ∷ left_over)) where
-
+    (search : IsSearch edges names root least waiting []) (moved : IsPermutation waiting (waits router cost ∷ left_over)) where
   pub taken_named : Contains names router
   taken_named = search.named router cost (Contains-permutation (waits router cost ∷ left_over) waiting (waits router cost) (IsPermutation-sym waiting (waits router cost ∷ left_over) moved) (Contains-head (waits router cost) left_over))
 
@@ -251,12 +251,12 @@ module _ (edges : List Edge) (names : List ℕ) (root : ℕ) (least : List (Opti
     settled = λ e n inside at. elim (search.settled e n inside at) [
       | inl opened ↦ absurd (Contains-none e opened)
       | inr more ↦ elim more [
-          | inl waiting_one ↦ elim (taken waiting left_over (waits router cost) moved (waits e.from n) waiting_one) [
-              | inl same ↦ inl (filter_member (λ (edge : Edge). edge.from == router) edges e inside (eq-eqb e.from router (sym (ap (λ (w : Waiting). w.1) same))))
-              | inr later ↦ inr (inl later)
-            ]
-          | inr settled ↦ inr (inr settled)
+        | inl waiting_one ↦ elim (taken waiting left_over (waits router cost) moved (waits e.from n) waiting_one) [
+          | inl same ↦ inl (filter_member (λ (edge : Edge). edge.from == router) edges e inside (eq-eqb e.from router (sym (ap (λ (w : Waiting). w.1) same))))
+          | inr later ↦ inr (inl later)
         ]
+        | inr settled ↦ inr (inr settled)
+      ]
     ];
   }
 
@@ -271,12 +271,12 @@ module _ (edges : List Edge) (names : List ℕ) (root : ℕ) (least : List (Opti
     settled = λ e n inside at. elim (search.settled e n inside at) [
       | inl opened ↦ inl opened
       | inr more ↦ elim more [
-          | inl waiting_one ↦ elim (taken waiting left_over (waits router cost) moved (waits e.from n) waiting_one) [
-              | inl same ↦ absurd (other (ap (found_at names least) (ap (λ (w : Waiting). w.1) same) ∙ at ∙ ap Some (sym (ap (λ (w : Waiting). w.0.0) same))))
-              | inr later ↦ inr (inl later)
-            ]
-          | inr settled ↦ inr (inr settled)
+        | inl waiting_one ↦ elim (taken waiting left_over (waits router cost) moved (waits e.from n) waiting_one) [
+          | inl same ↦ absurd (other (ap (found_at names least) (ap (λ (w : Waiting). w.1) same) ∙ at ∙ ap Some (sym (ap (λ (w : Waiting). w.0.0) same))))
+          | inr later ↦ inr (inl later)
         ]
+        | inr settled ↦ inr (inr settled)
+      ]
     ];
   }
 
@@ -316,44 +316,50 @@ count-nothing [] = refl
 count-nothing (name ∷ names) = sum_by-cons counted None (nothing_found names) ∙ rw (count-nothing names) refl
 
 pub search_begins : (edges : List Edge) (names : List ℕ) (root place : ℕ) (waiting : List Waiting) → AreNames edges names → slice_get names place ≡ Some root → IsPermutation (waits root 0 ∷ []) waiting
-  → IsSearch edges names root (first_costs names place) waiting []
+    → IsSearch edges names root (first_costs names place) waiting []
 search_begins edges names root place waiting are at moved = record {
-    places = length-set (nothing_found names) place (Some 0) ∙ length-nothing names;
-    own = at_first root ∙ rw (eq-eqb root root refl) refl;
-    walks = λ v. elim (decided root v) [
-      | inl same ↦
-          let is : found_at names (first_costs names place) v ≡ Some 0 = at_first v ∙ rw (eq-eqb root v same) refl in
-          rw is (subst (λ w. Walk edges root w 0) same (stay root))
-      | inr other ↦ nothing_there v (at_first v ∙ rw (ne_eqb root v other) refl)
-    ];
-    bound = λ v n found. elim (decided root v) [
-      | inl same ↦ let is : 0 ≡ n = same_some 0 n (found_at names (first_costs names place) v) (at_first v ∙ rw (eq-eqb root v same) refl) found in let c = count in omega arith
-      | inr other ↦ absurd (none_some n (sym (at_first v ∙ rw (ne_eqb root v other) refl) ∙ found))
-    ];
-    named = λ r c inside. subst (Contains names) (ap (λ (w : Waiting). w.1) (only (waits r c) inside)) named_root;
-    settled = λ e n inside found. elim (decided root e.from) [
-      | inl same ↦
-          let is : 0 ≡ n = same_some 0 n (found_at names (first_costs names place) e.from) (at_first e.from ∙ rw (eq-eqb root e.from same) refl) found in
-          inr (inl (Contains-permutation (waits root 0 ∷ []) waiting (waits e.from n) moved (subst (λ k. Contains (waits root 0 ∷ []) (waits k n)) same (subst (λ k. Contains (waits root 0 ∷ []) (waits root k)) is (Contains-head (waits root 0) [])))))
-      | inr other ↦ absurd (none_some n (sym (at_first e.from ∙ rw (ne_eqb root e.from other) refl) ∙ found))
-    ];
-  } where
+  places = length-set (nothing_found names) place (Some 0) ∙ length-nothing names;
+  own = at_first root ∙ rw (eq-eqb root root refl) refl;
+  walks = λ v. elim (decided root v) [
+    | inl same ↦
+        let is : found_at names (first_costs names place) v ≡ Some 0 = at_first v ∙ rw (eq-eqb root v same) refl in
+        rw is (subst (λ w. Walk edges root w 0) same (stay root))
+    | inr other ↦ nothing_there v (at_first v ∙ rw (ne_eqb root v other) refl)
+  ];
+  bound = λ v n found. elim (decided root v) [
+    | inl same ↦ let is : 0 ≡ n = same_some 0 n (found_at names (first_costs names place) v) (at_first v ∙ rw (eq-eqb root v same) refl) found in let c = count in omega arith
+    | inr other ↦ absurd (none_some n (sym (at_first v ∙ rw (ne_eqb root v other) refl) ∙ found))
+  ];
+  named = λ r c inside. subst (Contains names) (ap (λ (w : Waiting). w.1) (only (waits r c) inside)) named_root;
+  settled = λ e n inside found. elim (decided root e.from) [
+    | inl same ↦
+        let is : 0 ≡ n = same_some 0 n (found_at names (first_costs names place) e.from) (at_first e.from ∙ rw (eq-eqb root e.from same) refl) found in
+        inr (inl (Contains-permutation (waits root 0 ∷ []) waiting (waits e.from n) moved (subst (λ k. Contains (waits root 0 ∷ []) (waits k n)) same (subst (λ k. Contains (waits root 0 ∷ []) (waits root k)) is (Contains-head (waits root 0) [])))))
+    | inr other ↦ absurd (none_some n (sym (at_first e.from ∙ rw (ne_eqb root e.from other) refl) ∙ found))
+  ];
+} where
   none_some : (n : ℕ) → None ≡ Some n → ⊥
   none_some n e = cc
+
   nothing_there : (v : ℕ) → found_at names (first_costs names place) v ≡ None → IfSome (found_at names (first_costs names place) v) (Walk edges root v)
   nothing_there v is = rw is tt
+
   within : place < length (nothing_found names)
   within = let n = length-nothing names in let h = slice_get_within names place root at in omega arith
+
   at_first : (v : ℕ) → found_at names (first_costs names place) v ≡ cond (root == v) (Some 0) None
   at_first v = found-set names (nothing_found names) place root (Some 0) v (apart names are.rising) (length-nothing names) at
-    ∙ ap (cond (root == v) (Some 0)) (found-nothing names names v)
+      ∙ ap (cond (root == v) (Some 0)) (found-nothing names names v)
+
   count : found_count (first_costs names place) ≡ 1
   count = let sums = sum_by-set counted (nothing_found names) place (Some 0) None within in
-    let nothing = count-nothing names in
-    let there : counted (get_or (nothing_found names) place None) ≡ 0 = ap counted (get_or-nothing names place) in
-    omega (arith, sums, nothing, there)
+      let nothing = count-nothing names in
+      let there : counted (get_or (nothing_found names) place None) ≡ 0 = ap counted (get_or-nothing names place) in
+      omega (arith, sums, nothing, there)
+
   named_root : Contains names root
   named_root = (place, slice_get_within names place root at, get_or_from_slice_get names place root root at)
+
   only : (w : Waiting) → Contains waiting w → waits root 0 ≡ w
   only w inside = elim (Contains-cases (waits root 0) [] w (Contains-permutation waiting (waits root 0 ∷ []) w (IsPermutation-sym (waits root 0 ∷ []) waiting moved) inside)) [
     | inl same ↦ same
@@ -361,20 +367,20 @@ search_begins edges names root place waiting are at moved = record {
   ]
 
 pub search_begun : (edges : List Edge) (names : List ℕ) (root place : ℕ) (nothing least : List (Option ℕ)) (empty waiting : List Waiting) → AreNames edges names → slice_get names place ≡ Some root
-  → nothing ≡ nothing_found names → least ≡ set nothing place (Some 0) → empty ≡ [] → IsPermutation (waits root 0 ∷ empty) waiting → IsSearch edges names root least waiting []
+    → nothing ≡ nothing_found names → least ≡ set nothing place (Some 0) → empty ≡ [] → IsPermutation (waits root 0 ∷ empty) waiting → IsSearch edges names root least waiting []
 search_begun edges names root place nothing least empty waiting are at none first nobody moved =
     rw (first, none) (search_begins edges names root place waiting are at (subst (λ ws. IsPermutation (waits root 0 ∷ ws) waiting) nobody moved))
 
 -- where nothing waits the costs are the least
 pub search_ends : (edges : List Edge) (names : List ℕ) (root : ℕ) (least : List (Option ℕ)) (waiting : List Waiting) → length waiting ≡ 0 → IsSearch edges names root least waiting [] → IsFound edges names root least
 search_ends edges names root least waiting empty search = record {
-    places = search.places;
-    exact = λ v. IsCost-unique edges root v (found_at names least v) (cost edges root v)
+  places = search.places;
+  exact = λ v. IsCost-unique edges root v (found_at names least v) (cost edges root v)
       (IsCost-from_settled edges root (found_at names least) search.walks search.own (λ edge n inside at. elim (search.settled edge n inside at) [
         | inl opened ↦ absurd (Contains-none edge opened)
         | inr more ↦ elim more [ inl waiting_one ↦ absurd (omega arith) | inr settled ↦ settled ]
       ]) v) (cost_is edges root v);
-  }
+}
 
 -- a slice that was written whole
 pub whole : {X : Type 0} (new old : List X) (n : ℕ) → length new ≡ n → take n (new ++ drop (length new) old) ≡ new

@@ -47,7 +47,7 @@ pub record IsSearch (edges : List Edge) (names : List ℕ) (root : ℕ) (least :
   pub bound : (v n : ℕ) → found_at names least v ≡ Some n → n + 65535 ≤ 65535 * found_count least
   pub named : (router cost : ℕ) → Contains waiting (waits router cost) → Contains names router
   pub settled : (edge : Edge) (n : ℕ) → Contains edges edge → found_at names least edge.from ≡ Some n
-    → Contains open_edges edge ⊎ (Contains waiting (waits edge.from n) ⊎ IsSomeAnd (found_at names least edge.to) (λ m. m ≤ n + edge.cost))
+      → Contains open_edges edge ⊎ (Contains waiting (waits edge.from n) ⊎ IsSomeAnd (found_at names least edge.to) (λ m. m ≤ n + edge.cost))
 
 -- the end of a search: each name has its cost beside it
 pub record IsFound (edges : List Edge) (names : List ℕ) (root : ℕ) (least : List (Option ℕ)) : Type 0 where

@@ -27,11 +27,7 @@ fn sort(names: &mut Vec<RouterId>)
 }
 
 /// The routers of a graph and some further ones, by rising ID, each once.
-pub fn names_of(
-    alloc: Global,
-    graph: &Graph,
-    more: &[RouterId],
-) -> Result<Vec<RouterId>, NoMemory>
+pub fn names_of(alloc: Global, graph: &Graph, more: &[RouterId]) -> Result<Vec<RouterId>, NoMemory>
     requires { length more.now ≤ 512 }
     ensures names { IfOk result (λ names. AreNames graph.now names.items) }
     ensures more { IfOk result (λ names. (router : ℕ) → Contains more.now router → Contains names.items router) }

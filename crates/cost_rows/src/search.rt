@@ -17,11 +17,7 @@ use std::collections::BinaryHeap;
 ///
 /// For a graph of V routers and E edges it takes about (V + E) log (V + E) steps: each router's edges are gone over once,
 /// from the nearest router on.
-pub fn costs(
-    alloc: Global,
-    graph: &Graph,
-    root: RouterId,
-) -> Result<Vec<(RouterId, u32)>, NoMemory>
+pub fn costs(alloc: Global, graph: &Graph, root: RouterId) -> Result<Vec<(RouterId, u32)>, NoMemory>
     ensures { IfOk result (λ row. IsCostRow graph.now root row.items) }
 {
     let names = names_of(alloc, graph, &[root])?;

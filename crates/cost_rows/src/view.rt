@@ -107,7 +107,14 @@ impl View {
         let names = names_of(alloc, &graph, routers.as_slice())?;
         let rows = rows_of(alloc, members, &graph, names.as_slice())?;
         let members = Vec::from_slice(alloc, members)?;
-        Ok(Arc::new(alloc, View { members, graph, rows })?)
+        Ok(Arc::new(
+            alloc,
+            View {
+                members,
+                graph,
+                rows,
+            },
+        )?)
     }
 
     pub fn graph(&self) -> &Graph

@@ -21,7 +21,7 @@ other : (c : goal.Joined-else-place-edges) → c.partition_point-place.result < 
 other c within same = elim c.else-place-edges.branch [
   | else-place-edges-via-then-place-edges+else-eq w ↦
       let found : w.index-edges-place.result ≡ c.args.edge.now =
-        w.index-edges-place.is ∙ get_or_default c.args.edges.now c.partition_point-place.result w.index-edges-place.result c.args.edge.now within ∙ same in
+      w.index-edges-place.is ∙ get_or_default c.args.edges.now c.partition_point-place.result w.index-edges-place.result c.args.edge.now within ∙ same in
       false≢true (sym w.if-eq.false ∙ w.eq.ensures ∙ rw found (equal-itself c.args.edge.now))
   | else-place-edges-via-else-place-edges w ↦ absurd (omega arith)
 ]
@@ -30,6 +30,8 @@ pub returns-clause-absent : goal.returns-clause-absent
 returns-clause-absent c = absent_at c.args.edge.now c.partition_point-place.result c.args.edges.now c.requires (point c).0 (point c).1 (other c)
 
 pub returns-clause-place : goal.returns-clause-place
-returns-clause-place c = (c.partition_point-place.ensures.bound,
+returns-clause-place c = (
+  c.partition_point-place.ensures.bound,
   include_new c.args.edge.now c.partition_point-place.result c.args.edges.now c.partition_point-place.ensures.bound
-    (absent_at c.args.edge.now c.partition_point-place.result c.args.edges.now c.requires (point c).0 (point c).1 (other c)) (point c).0 (point c).1)
+      (absent_at c.args.edge.now c.partition_point-place.result c.args.edges.now c.requires (point c).0 (point c).1 (other c)) (point c).0 (point c).1,
+)

@@ -1,4 +1,3 @@
-use Rattle.std.proofs.Common.{◌≡◌, Ok, Err, MatchResult, subst}
 use Rattle.cost_rows.proofs.NameLemmas.{name_found}
 use Rattle.cost_rows.proofs.search.place_of.Goals as goal
 

@@ -10,12 +10,12 @@ relax-requires-clause-named c =
 pub relax-requires-clause-fits : goal.relax-requires-clause-fits
 relax-requires-clause-fits c =
     edge_fits c.args.graph.now c.args.names.now c.loop-edge.invariant.some.0 c.args.router c.args.cost c.loop-edge.edge-index c.loop-edge.least (heap_items c.loop-edge.waiting) c.edges_from-edge-items.result.now c.edge-item.result
-      c.requires.names c.edges_from-edge-items.ensures.kept c.loop-edge.invariant.items c.loop-edge-test.true c.edge-item.is c.loop-edge.invariant.found c.loop-edge.invariant.some.1
+    c.requires.names c.edges_from-edge-items.ensures.kept c.loop-edge.invariant.items c.loop-edge-test.true c.edge-item.is c.loop-edge.invariant.found c.loop-edge.invariant.some.1
 
 pub loop-edge-preserved : goal.loop-edge-preserved
 loop-edge-preserved c =
     let done = λ (root : _) (search : _). edge_done c.args.graph.now c.args.names.now root c.args.router c.args.cost c.loop-edge.edge-index c.loop-edge.least (heap_items c.loop-edge.waiting) c.edges_from-edge-items.result.now c.edge-item.result
-      c.requires.names c.edges_from-edge-items.ensures.kept c.loop-edge.invariant.items c.loop-edge-test.true c.edge-item.is c.loop-edge.invariant.found search c.relax.new.least (heap_items c.relax.new.waiting) c.in_ok-relax.ensures in
+    c.requires.names c.edges_from-edge-items.ensures.kept c.loop-edge.invariant.items c.loop-edge-test.true c.edge-item.is c.loop-edge.invariant.found search c.relax.new.least (heap_items c.relax.new.waiting) c.in_ok-relax.ensures in
     let here = done c.loop-edge.invariant.some.0 c.loop-edge.invariant.some.1 in
     record {
       some = (c.loop-edge.invariant.some.0, here.0);

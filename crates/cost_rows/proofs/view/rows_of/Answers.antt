@@ -10,4 +10,4 @@ row-requires-clause-root c =
 pub loop-member-preserved : goal.loop-member-preserved
 loop-member-preserved c =
     rw c.in_ok-push.ensures.items
-      (row_more c.args.graph.now c.args.members.now c.loop-member.rows.items c.loop-member.member-index c.member-item.result c.in_ok-pairs.pairs.items c.loop-member-test.true c.member-item.is c.loop-member.invariant c.in_ok-pairs.ensures)
+    (row_more c.args.graph.now c.args.members.now c.loop-member.rows.items c.loop-member.member-index c.member-item.result c.in_ok-pairs.pairs.items c.loop-member-test.true c.member-item.is c.loop-member.invariant c.in_ok-pairs.ensures)

@@ -12,4 +12,4 @@ either_way (Err e) new old included ok err before after = subst IsGraph (sym err
 pub invariant_of-self : goal.invariant_of-self
 invariant_of-self c =
     either_way c.include.result c.include.new.edges.items c.self.inside.edges.items _ c.include.ensures.ok c.include.ensures.err c.self.invariant
-      (graph-include c.args.edge c.self.inside.edges.items c.self.invariant (rw (← c.self.view_is) at c.requires.few) c.requires.cheap)
+    (graph-include c.args.edge c.self.inside.edges.items c.self.invariant (rw (← c.self.view_is) at c.requires.few) c.requires.cheap)

@@ -8,5 +8,5 @@ pub rows_of-requires-clause-named : goal.rows_of-requires-clause-named
 rows_of-requires-clause-named c = λ k d within.
     let member = get_or c.args.members.now k d in
     rw c.as_slice-2.ensures.value (c.in_ok-names.ensures.more member.router
-      (subst (λ xs. Contains xs member.router) (sym (c.as_slice.ensures.value ∙ c.in_ok-routers.ensures))
-        (map_member (λ (m : Member). m.router) c.args.members.now member (Contains-get_or c.args.members.now k d within))))
+    (subst (λ xs. Contains xs member.router) (sym (c.as_slice.ensures.value ∙ c.in_ok-routers.ensures))
+    (map_member (λ (m : Member). m.router) c.args.members.now member (Contains-get_or c.args.members.now k d within))))
