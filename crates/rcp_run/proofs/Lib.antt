@@ -2,3 +2,15 @@ pub mod Fits
 pub mod Words
 pub mod Numbers
 pub mod Lines
+pub mod ListMaps
+pub mod EntryLemmas
+pub mod RisingLemmas
+pub mod RelaxLemmas
+pub mod DecisionLemmas
+pub mod EngineLemmas
+pub mod StepLemmas
+pub mod FillLemmas
+pub mod NextLemmas
+pub mod TurnLemmas
+pub mod BeginLemmas
+pub mod HeadlineLemmas

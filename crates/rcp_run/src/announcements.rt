@@ -1,6 +1,10 @@
-//! What the routers announce: a map from router and prefix to route, as a list.
-
-ghost use Rattle.std.specs.Prelude.{◌≡◌, ◌<◌, ◌≤◌, length, IfSome, IsTrue};
+// What the routers announce: a map from router and prefix to route, as a list.
+ghost use Rattle.std.specs.Prelude.{◌≡◌, ℕ, not, option_copied, OnOk, IfOk, Some, bytes_eq};
+ghost use Rattle.std.specs.List.{position, AllByRecursion};
+ghost use Rattle.rcp_model.specs.Maps.{put_at};
+ghost use Rattle.rcp_model.specs.Control.{same_place, same_octets, announced_by};
+ghost use Rattle.rcp_model.specs.Routes.{is_usable};
+ghost use Rattle.rcp_run.specs.State.{announcements_in, entry_in, entry_at, IsKept, IsKeptRoute};
 
 use rcp_base::{NoMemory, Prefix, Slot};
 use rcp_model::Route;
@@ -21,16 +25,18 @@ pub fn announcement_of(
     announcements: &[Announcement],
     slot: Slot,
     prefix: Prefix,
-) -> Option<&Announcement> {
+) -> Option<&Announcement>
+    ensures { option_copied result ≡ entry_at announcements.now slot prefix }
+{
     let place = place_of(announcements, slot, prefix)?;
     Some(&announcements[place])
 }
 
 /// Whether the route may be chosen: it has no loop (RFC 4271 section 9.1.2), and a message has room for it.
 pub fn is_usable(route: &Route) -> bool
-    ensures { IsTrue result → length route.now.attrs ≤ 4068 }
+    ensures { result ≡ is_usable route.now }
 {
-    !route.looped && route.attrs.as_slice().len() <= MOST_ATTRS
+    !route.looped && !route.long
 }
 
 /// Puts the route in the place of the router's earlier one, or at the end. Tells whether the attributes changed.
@@ -39,12 +45,22 @@ pub fn announce(
     slot: Slot,
     prefix: Prefix,
     route: Route,
-) -> Result<bool, NoMemory> {
+) -> Result<bool, NoMemory>
+    ensures entries { OnOk result (announcements_in announcements.new.items
+        ≡ put_at same_place (slot, prefix) route.attrs (announcements_in announcements.old.items)) }
+    ensures changed { IfOk result (λ changed. changed
+        ≡ not (same_octets (announced_by (announcements_in announcements.old.items) slot prefix) (Some route.attrs))) }
+    ensures kept { (as_number : ℕ) → AllByRecursion (IsKept as_number) announcements.old.items → IsKeptRoute as_number route
+        → OnOk result (AllByRecursion (IsKept as_number) announcements.new.items) }
+{
     match place_of(announcements, slot, prefix) {
         Some(place) => {
-            let entry = &mut announcements[place];
-            let changed = entry.route.attrs.as_slice() != route.attrs.as_slice();
-            entry.route = route;
+            let changed = have_other_attrs(&announcements[place].route, &route);
+            announcements[place] = Announcement {
+                slot,
+                prefix,
+                route,
+            };
             Ok(changed)
         }
         None => {
@@ -58,10 +74,16 @@ pub fn announce(
     }
 }
 
+fn have_other_attrs(route: &Route, other: &Route) -> bool
+    ensures { result ≡ not (bytes_eq route.now.attrs other.now.attrs) }
+{
+    route.attrs.as_slice() != other.attrs.as_slice()
+}
+
 fn place_of(announcements: &[Announcement], slot: Slot, prefix: Prefix) -> Option<usize>
-    ensures { IfSome result (λ place. place < length announcements.now) }
+    ensures { result ≡ position (λ entry. same_place (slot, prefix) (entry_in entry).0) announcements.now }
 {
     announcements
         .iter()
-        .position(|entry| entry.slot == slot && entry.prefix == prefix)
+        .position(|entry| slot == entry.slot && prefix == entry.prefix)
 }

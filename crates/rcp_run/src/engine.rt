@@ -1,13 +1,25 @@
-//! The route control server on plain lists. It keeps what the routers announce, which prefixes are pending, and what
-//! each connected router was told.
-//!
-//! | Record | What becomes pending |
-//! |---|---|
-//! | a router connects | each prefix that some router announces |
-//! | an UPDATE | each of its prefixes whose announcement changes |
-//! | a drain | nothing: each pending prefix is decided for each connected router |
-
-ghost use Rattle.std.specs.Prelude.{◌≡◌, ◌≤◌, length, vec_len, IfSome};
+// The route control server on plain lists. It keeps what the routers announce, which prefixes are pending, and what
+// each connected router was told. It means a platform of the definitions, and its step is theirs.
+//
+// | Record | What becomes pending |
+// |---|---|
+// | a router connects | each prefix that some router announces |
+// | an UPDATE | each of its prefixes whose announcement changes |
+// | a drain | nothing: each pending prefix is decided for each connected router |
+ghost use Rattle.std.specs.Prelude.{◌≡◌, ℕ, ◌+◌, ◌-◌, ◌^◌, ◌<◌, ◌≤◌, ◌∷◌, [], ◌++◌, ◌&&◌, ◌==◌, true, false, not, length, map, min, is_some, nat_lt, option_map, IfOk, OnOk, IfSome, Some, Err};
+ghost use Rattle.std.specs.List.{list_all, list_any, flat_map, AllByRecursion};
+ghost use Rattle.std.specs.Int.{w32, from_be_bytes};
+ghost use Rattle.rcp_model.specs.Maps.{get_at, set_at, same_prefix};
+ghost use Rattle.rcp_model.specs.Attributes.{canonical_octets, attributes_in};
+ghost use Rattle.rcp_model.specs.Edges.{rising_edges};
+ghost use Rattle.rcp_model.specs.Control.{Change, after, is_connected, slot_cost, same_octets};
+ghost use Rattle.rcp_model.specs.Meaning.{fresh, domain_of, slot_from, slot_on, seated, heard, drain, drained_server, drain_messages, summary, messages_to, out_octets, step, output};
+ghost use Rattle.rcp_model.specs.Plain.{is_plausible, may_be_seated, is_plain_update, has_form};
+ghost use Rattle.bgp_msg.specs.Narrow.{Tells};
+ghost use Rattle.rcp_run.specs.declared.refusal.Refusal.TheVariants.{NotOfForm};
+ghost use Rattle.rcp_run.specs.Rosters.{roster_in};
+ghost use Rattle.rcp_run.specs.State.{table_in, session_in, sessions_in, connection_of, server_in, platform_in, IsSound, IsKept, costs_in, offers_to, cell_told, session_told, messages_told, all_told};
+ghost use Rattle.rcp_run.specs.Records.{item_of};
 
 use crate::announcements::{Announcement, announce};
 use crate::costs::{Reached, costs};
@@ -18,7 +30,7 @@ use crate::prefixes::{add, add_announced, announced};
 use crate::refusal::Refusal;
 use crate::roster::{Roster, slot_of};
 use crate::routes::route_of;
-use crate::table::{Cell, set};
+use crate::table::{Cell, put, unset};
 use bgp_msg::{NarrowUpdate, next_prefix, read_narrow};
 use rcp_base::{NoMemory, Prefix, RouterId, Slot};
 use std::alloc::Global;
@@ -46,7 +58,11 @@ pub struct Engine {
 }
 
 impl Engine {
-    pub fn new(alloc: Global, roster: Roster) -> Engine {
+    /// No router is connected, and nothing is announced.
+    pub fn new(alloc: Global, roster: Roster) -> Engine
+        ensures platform { platform_in result ≡ fresh (roster_in roster) }
+        ensures sound { IsSound result }
+    {
         Engine {
             roster,
             connections: Vec::new(alloc),
@@ -56,11 +72,32 @@ impl Engine {
         }
     }
 
-    /// Takes one record behind the first and before the last, and answers its output.
-    pub fn step(&mut self, alloc: Global, input: &Record) -> Result<Vec<u8>, Refusal> {
+    /// Takes one record behind the first and before the last, and answers its output. After an `Err` nothing is said of
+    /// what is left of the state.
+    pub fn step(&mut self, alloc: Global, input: &Record) -> Result<Vec<u8>, Refusal>
+        requires sound { IsSound self.old }
+        requires plausible { is_plausible (item_of input.now) ≡ true }
+
+        // What the record means is done and put out.
+        ensures platform { OnOk result (platform_in self.new ≡ step (platform_in self.old) (item_of input.now)) }
+        ensures output { IfOk result (λ out. out.items ≡ flat_map out_octets (output (platform_in self.old) (item_of input.now))) }
+        ensures sound { OnOk result (IsSound self.new) }
+
+        // It is refused only where it isn't of the form.
+        ensures form { OnOk result (has_form (platform_in self.old) (item_of input.now) ≡ true) }
+        ensures refused { result ≡ Err NotOfForm → has_form (platform_in self.old) (item_of input.now) ≡ false }
+    {
         match input.kind {
-            Kind::Ready => self.connect(alloc, input.source, &input.body)?,
-            Kind::Octets => self.receive(alloc, input.source, &input.body)?,
+            Kind::Ready => {
+                if let Err(why) = self.connect(alloc, input.source, &input.body) {
+                    return Err(why);
+                }
+            }
+            Kind::Octets => {
+                if let Err(why) = self.receive(alloc, input.source, &input.body) {
+                    return Err(why);
+                }
+            }
             Kind::Drain => return Ok(self.drain(alloc)?),
             Kind::Roster | Kind::Finish => return Err(Refusal::NotOfForm),
         }
@@ -68,7 +105,18 @@ impl Engine {
     }
 
     /// The session of a router of the roster that has none begins, with a number above each earlier one.
-    fn connect(&mut self, alloc: Global, number: u32, body: &[u8]) -> Result<(), Refusal> {
+    fn connect(&mut self, alloc: Global, number: u32, body: &[u8]) -> Result<(), Refusal>
+        requires sound { IsSound self.old }
+        requires numbered { 0 < number }
+        requires router { length body.now ≡ 4 }
+        ensures platform { OnOk result (platform_in self.new
+            ≡ seated (platform_in self.old) number (slot_from 0 self.old.roster.members.items (from_be_bytes w32 body.now))) }
+        ensures sound { OnOk result (IsSound self.new) }
+        ensures form { OnOk result (may_be_seated (platform_in self.old) number
+            (slot_from 0 self.old.roster.members.items (from_be_bytes w32 body.now)) ≡ true) }
+        ensures refused { result ≡ Err NotOfForm → may_be_seated (platform_in self.old) number
+            (slot_from 0 self.old.roster.members.items (from_be_bytes w32 body.now)) ≡ false }
+    {
         let Some(slot) = slot_named(&self.roster, body) else {
             return Err(Refusal::NotOfForm);
         };
@@ -85,28 +133,82 @@ impl Engine {
     }
 
     /// An UPDATE of the narrow form comes on a connection.
-    fn receive(&mut self, alloc: Global, number: u32, body: &[u8]) -> Result<(), Refusal> {
+    fn receive(&mut self, alloc: Global, number: u32, body: &[u8]) -> Result<(), Refusal>
+        requires { IsSound self.old }
+        ensures platform { OnOk result (platform_in self.new
+            ≡ heard (platform_in self.old) body.now (slot_on (platform_in self.old).connections number)) }
+        ensures sound { OnOk result (IsSound self.new) }
+        ensures form { OnOk result ((is_some (slot_on (platform_in self.old).connections number) && is_plain_update body.now) ≡ true) }
+        ensures refused { result ≡ Err NotOfForm
+            → (is_some (slot_on (platform_in self.old).connections number) && is_plain_update body.now) ≡ false }
+    {
         let Some(slot) = slot_connected(&self.connections, number) else {
             return Err(Refusal::NotOfForm);
         };
         let Some(update) = read_narrow(body) else {
             return Err(Refusal::NotOfForm);
         };
-        let local_as = self.roster.as_number;
         let mut rest = update.nlri;
-        while let Some((prefix, more)) = next_prefix(rest) {
-            let route = route_of(alloc, &update, local_as)?;
-            if announce(&mut self.announcements, slot, prefix, route)? {
-                add(&mut self.touched, prefix)?;
-            }
-            rest = more;
+        while let Some(found) = next_prefix(rest) {
+            self.hear(alloc, slot, found.0, &update)?;
+            rest = found.1;
+        }
+        Ok(())
+    }
+
+    /// A connected router announces a prefix. It becomes pending if that changes what the router announces.
+    fn hear(
+        &mut self,
+        alloc: Global,
+        slot: Slot,
+        prefix: Prefix,
+        update: &NarrowUpdate<'_>,
+    ) -> Result<(), NoMemory>
+        requires sound { IsSound self.old }
+        requires connected { is_connected (server_in self.old) slot ≡ true }
+        requires canonical { canonical_octets (attributes_in update.now.attrs.now) ≡ update.now.attrs.now }
+        requires tells { Tells update.now.attrs.now update.now.origin update.now.path.now update.now.next_hop update.now.local_pref }
+        requires path { length update.now.path.now ≤ 510 }
+        ensures platform { OnOk result (platform_in self.new ≡ record (platform_in self.old) {
+          server = after (domain_of (roster_in self.old.roster)) (Change slot prefix (Some update.now.attrs.now)) (server_in self.old);
+        }) }
+        ensures sound { OnOk result (IsSound self.new) }
+        ensures connected { OnOk result (is_connected (server_in self.new) slot ≡ true) }
+    {
+        let route = route_of(alloc, update, self.roster.as_number)?;
+        if announce(&mut self.announcements, slot, prefix, route)? {
+            add(&mut self.touched, prefix)?;
         }
         Ok(())
     }
 
     /// Each pending prefix is decided for each connected router. The output is what each router is told of the
     /// prefixes that change for it, and a summary.
-    fn drain(&mut self, alloc: Global) -> Result<Vec<u8>, NoMemory> {
+    fn drain(&mut self, alloc: Global) -> Result<Vec<u8>, NoMemory>
+        requires { IsSound self.old }
+        ensures platform { OnOk result (platform_in self.new ≡ drain (platform_in self.old)) }
+        ensures output { IfOk result (λ out. out.items ≡ flat_map out_octets (drain_messages (platform_in self.old)
+            ++ summary (drained_server (platform_in self.old)) (drain (platform_in self.old)).updates ∷ [])) }
+        ensures sound { OnOk result (IsSound self.new) }
+    {
+        let mut out = self.tell_all(alloc)?;
+        self.touched.clear();
+        self.summarize(alloc, &mut out)?;
+        Ok(out)
+    }
+
+    /// Each pending prefix is decided for each connected router. The output is what each router is told.
+    fn tell_all(&mut self, alloc: Global) -> Result<Vec<u8>, NoMemory>
+        requires { IsSound self.old }
+        ensures roster { OnOk result (self.new.roster ≡ self.old.roster) }
+        ensures announcements { OnOk result (self.new.announcements ≡ self.old.announcements) }
+        ensures sessions { OnOk result (sessions_in self.new.connections.items
+            ≡ map (session_told (offers_to self.old.roster self.old.announcements.items) self.old.touched.items) (sessions_in self.old.connections.items)) }
+        ensures out { IfOk result (λ out. out.items ≡ flat_map out_octets
+            (all_told (offers_to self.old.roster self.old.announcements.items) self.old.touched.items (sessions_in self.old.connections.items))) }
+        ensures count { OnOk result (self.new.written ≡ min (self.old.written + length
+            (all_told (offers_to self.old.roster self.old.announcements.items) self.old.touched.items (sessions_in self.old.connections.items))) (2 ^ 64 - 1)) }
+    {
         let mut out = Vec::new(alloc);
         for place in 0..self.connections.len() {
             let connection = &mut self.connections[place];
@@ -120,31 +222,59 @@ impl Engine {
             )?;
             self.written = self.written.saturating_add(updates);
         }
-        self.touched.clear();
+        Ok(out)
+    }
+
+    /// Adds a summary of the state.
+    fn summarize(&self, alloc: Global, out: &mut Vec<u8>) -> Result<(), NoMemory>
+        requires { self.now.written < 2 ^ 64 }
+        ensures { OnOk result (out.new.items ≡ out.old.items ++ out_octets (summary (server_in self.now) self.now.written)) }
+    {
         let prefixes = announced(alloc, &self.announcements)?;
         let summary = Summary {
             routers: self.connections.len() as u64,
             prefixes: prefixes.len() as u64,
             updates: self.written,
         };
-        add_summary(&mut out, summary)?;
-        Ok(out)
+        add_summary(out, summary)
     }
 }
 
 /// The slot of the router that a record names.
-fn slot_named(roster: &Roster, body: &[u8]) -> Option<Slot> {
+fn slot_named(roster: &Roster, body: &[u8]) -> Option<Slot>
+    requires { length body.now ≡ 4 }
+    ensures { result ≡ slot_from 0 roster.now.members.items (from_be_bytes w32 body.now) }
+{
     let (octets, _) = body.split_first_chunk::<4>()?;
     slot_of(&roster.members, RouterId(u32::from_be_bytes(*octets)))
 }
 
 /// The number is above that of each connection, and none has the slot.
-fn is_new(connections: &[Connection], number: u32, slot: Slot) -> bool {
-    connections.iter().all(|connection| connection.number < number && connection.slot != slot)
+fn is_new(connections: &[Connection], number: u32, slot: Slot) -> bool
+    ensures { result ≡ (list_all (λ connection. nat_lt connection.number number) connections.now
+        && not (list_any (λ connection. slot == connection.slot) connections.now)) }
+{
+    are_below(connections, number) && !is_seated(connections, slot)
+}
+
+fn are_below(connections: &[Connection], number: u32) -> bool
+    ensures { result ≡ list_all (λ connection. nat_lt connection.number number) connections.now }
+{
+    connections
+        .iter()
+        .all(|connection| connection.number < number)
+}
+
+fn is_seated(connections: &[Connection], slot: Slot) -> bool
+    ensures { result ≡ list_any (λ connection. slot == connection.slot) connections.now }
+{
+    connections.iter().any(|connection| slot == connection.slot)
 }
 
 /// The slot of the connection of this number.
-fn slot_connected(connections: &[Connection], number: u32) -> Option<Slot> {
+fn slot_connected(connections: &[Connection], number: u32) -> Option<Slot>
+    ensures { result ≡ slot_on (map connection_of (sessions_in connections.now)) number }
+{
     for connection in connections {
         if connection.number == number {
             return Some(connection.slot);
@@ -153,17 +283,19 @@ fn slot_connected(connections: &[Connection], number: u32) -> Option<Slot> {
     None
 }
 
-/// The routers that the router at the slot reaches, with the costs of the least walks. A walk of least cost has fewer
-/// edges than there are routers.
-fn reached_from(alloc: Global, roster: &Roster, slot: Slot) -> Result<Vec<Reached>, NoMemory> {
+/// The routers that the router at the slot reaches, with the costs of the least walks.
+fn reached_from(alloc: Global, roster: &Roster, slot: Slot) -> Result<Vec<Reached>, NoMemory>
+    ensures { IfOk result (λ reached. (to : ℕ) → costs_in roster.now.members.items reached.items to
+        ≡ slot_cost (rising_edges roster.now.links.items) roster.now.members.items slot to) }
+{
     match roster.members.get(usize::from(slot.0)) {
         None => Ok(Vec::new(alloc)),
-        Some(member) => costs(alloc, &roster.links, roster.members.len(), member.router),
+        Some(member) => costs(alloc, &roster.links, member.router),
     }
 }
 
 /// Decides the prefixes for the router of one connection, and adds an UPDATE for each that changes for it. Answers how
-/// many there are.
+/// many there are, at most 2^64 - 1.
 fn work(
     alloc: Global,
     roster: &Roster,
@@ -171,19 +303,20 @@ fn work(
     prefixes: &[Prefix],
     connection: &mut Connection,
     out: &mut Vec<u8>,
-) -> Result<u64, NoMemory> {
+) -> Result<u64, NoMemory>
+    requires { AllByRecursion (IsKept roster.now.as_number) announcements.now }
+    ensures session { OnOk result (session_in connection.new
+        ≡ session_told (offers_to roster.now announcements.now) prefixes.now (session_in connection.old)) }
+    ensures out { OnOk result (out.new.items ≡ out.old.items
+        ++ flat_map out_octets (messages_told (offers_to roster.now announcements.now) prefixes.now (session_in connection.old))) }
+    ensures count { IfOk result (λ count. count ≡ min (length
+        (messages_told (offers_to roster.now announcements.now) prefixes.now (session_in connection.old))) (2 ^ 64 - 1)) }
+{
     let slot = connection.slot;
     let reached = reached_from(alloc, roster, slot)?;
     let mut updates: u64 = 0;
     for prefix in prefixes {
-        let offered = offer(
-            alloc,
-            &roster.members,
-            announcements,
-            &reached,
-            slot,
-            *prefix,
-        )?;
+        let offered = offer(alloc, roster, announcements, &reached, slot, *prefix)?;
         if tell(alloc, connection, *prefix, offered, out)? {
             updates = updates.saturating_add(1);
         }
@@ -196,25 +329,30 @@ fn tell(
     alloc: Global,
     connection: &mut Connection,
     prefix: Prefix,
-    offered: Option<&Announcement>,
+    offered: Option<&[u8]>,
     out: &mut Vec<u8>,
 ) -> Result<bool, NoMemory>
-    requires { IfSome offered (λ entry. length entry.now.route.attrs ≤ 4068) }
+    requires { IfSome offered (λ attrs. length attrs.now ≤ 4068) }
+    ensures session { OnOk result (session_in connection.new ≡ record (session_in connection.old) {
+      table = set_at same_prefix prefix (option_map (λ attrs. attrs.now) offered.entry) (table_in connection.old.table.items);
+    }) }
+    ensures out { OnOk result (out.new.items ≡ out.old.items ++ flat_map out_octets (messages_to connection.old.number
+        (cell_told prefix (option_map (λ attrs. attrs.now) offered.entry) (table_in connection.old.table.items)))) }
+    ensures told { IfOk result (λ told. told ≡ not (same_octets
+        (get_at same_prefix prefix (table_in connection.old.table.items)) (option_map (λ attrs. attrs.now) offered.entry))) }
 {
-    let number = connection.number;
     match offered {
         None => {
-            let changed = set(alloc, &mut connection.table, prefix, None)?;
+            let changed = unset(&mut connection.table, prefix);
             if changed {
-                add_withdrawal(out, number, prefix)?;
+                add_withdrawal(out, connection.number, prefix)?;
             }
             Ok(changed)
         }
-        Some(entry) => {
-            let attrs = entry.route.attrs.as_slice();
-            let changed = set(alloc, &mut connection.table, prefix, Some(attrs))?;
+        Some(attrs) => {
+            let changed = put(alloc, &mut connection.table, prefix, attrs)?;
             if changed {
-                add_announcement(out, number, attrs, prefix)?;
+                add_announcement(out, connection.number, attrs, prefix)?;
             }
             Ok(changed)
         }

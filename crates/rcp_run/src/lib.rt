@@ -4,7 +4,10 @@
 //! `replay`, reads a recorded feed and writes the UPDATEs that a route control platform sends to its routers for it.
 //!
 //! A caller may rely on this: a run ends for every input, source and sink; it answers `Usage` exactly where the words
-//! are those of no command, `Read` only where the source failed, and `Write` only where the sink failed.
+//! are those of no command, `Read` only where the source failed, and `Write` only where the sink failed. Of a source
+//! that tells its octets it says more: `Done` comes only at the feed's end, `Feed` exactly at the first record that
+//! isn't of the form, and what was written is what the feed means, or a front of it. So the octets sent to a connected
+//! router, replayed, give for each prefix that isn't touched exactly what the router is offered.
 //!
 //! ```text
 //! let status = run(&rt, rt.alloc(), &["replay"], &mut source, &mut sink);

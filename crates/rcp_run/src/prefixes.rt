@@ -1,17 +1,22 @@
-//! Sets of prefixes, as strictly rising lists.
-
-ghost use Rattle.std.specs.Prelude.{◌≤◌, vec_len};
+// Sets of prefixes, as strictly rising lists.
+ghost use Rattle.std.specs.Prelude.{◌≡◌, [], not, ◌||◌, OnOk, IfOk};
+ghost use Rattle.std.specs.List.{position};
+ghost use Rattle.rcp_model.specs.Maps.{include, include_all, same_prefix, is_before};
+ghost use Rattle.rcp_model.specs.Control.{announced_prefixes};
+ghost use Rattle.rcp_run.specs.State.{announcements_in};
 
 use crate::announcements::Announcement;
 use rcp_base::{NoMemory, Prefix};
 use std::alloc::Global;
 
 /// Adds the prefix at its place, unless it is there.
-pub fn add(prefixes: &mut Vec<Prefix>, prefix: Prefix) -> Result<(), NoMemory> {
-    match prefixes.iter().position(|other| *other >= prefix) {
+pub fn add(prefixes: &mut Vec<Prefix>, prefix: Prefix) -> Result<(), NoMemory>
+    ensures { OnOk result (prefixes.new.items ≡ include prefix prefixes.old.items) }
+{
+    match place_of(prefixes, prefix) {
         None => prefixes.push(prefix)?,
         Some(place) => {
-            if prefixes[place] != prefix {
+            if prefix != prefixes[place] {
                 prefixes.insert(place, prefix)?;
             }
         }
@@ -19,8 +24,19 @@ pub fn add(prefixes: &mut Vec<Prefix>, prefix: Prefix) -> Result<(), NoMemory> {
     Ok(())
 }
 
+/// The first prefix that isn't before this one.
+fn place_of(prefixes: &[Prefix], prefix: Prefix) -> Option<usize>
+    ensures { result ≡ position (λ other. same_prefix prefix other || is_before prefix other) prefixes.now }
+{
+    prefixes
+        .iter()
+        .position(|other| prefix == *other || prefix < *other)
+}
+
 /// The prefixes that some router announces.
-pub fn announced(alloc: Global, announcements: &[Announcement]) -> Result<Vec<Prefix>, NoMemory> {
+pub fn announced(alloc: Global, announcements: &[Announcement]) -> Result<Vec<Prefix>, NoMemory>
+    ensures { IfOk result (λ prefixes. prefixes.items ≡ include_all (announced_prefixes (announcements_in announcements.now)) []) }
+{
     let mut prefixes = Vec::new(alloc);
     add_announced(&mut prefixes, announcements)?;
     Ok(prefixes)
@@ -30,7 +46,9 @@ pub fn announced(alloc: Global, announcements: &[Announcement]) -> Result<Vec<Pr
 pub fn add_announced(
     prefixes: &mut Vec<Prefix>,
     announcements: &[Announcement],
-) -> Result<(), NoMemory> {
+) -> Result<(), NoMemory>
+    ensures { OnOk result (prefixes.new.items ≡ include_all (announced_prefixes (announcements_in announcements.now)) prefixes.old.items) }
+{
     for entry in announcements {
         add(prefixes, entry.prefix)?;
     }

@@ -1,6 +1,9 @@
-//! What a router was told: a map from prefix to attribute octets, as a list.
-
-ghost use Rattle.std.specs.Prelude.{◌<◌, length, IfSome};
+// What a router was told: a map from prefix to attribute octets, as a list.
+ghost use Rattle.std.specs.Prelude.{◌≡◌, not, is_some, OnOk, IfOk, Some};
+ghost use Rattle.std.specs.List.{position};
+ghost use Rattle.rcp_model.specs.Maps.{get_at, put_at, without, same_prefix};
+ghost use Rattle.rcp_model.specs.Control.{same_octets};
+ghost use Rattle.rcp_run.specs.State.{table_in};
 
 use rcp_base::{NoMemory, Prefix};
 use rcp_model::Octets;
@@ -13,35 +16,29 @@ pub struct Cell {
     pub attrs: Octets,
 }
 
-/// Sets the prefix to these attributes, or to none. Tells whether that changes anything.
-pub fn set(
-    alloc: Global,
-    table: &mut Vec<Cell>,
-    prefix: Prefix,
-    attrs: Option<&[u8]>,
-) -> Result<bool, NoMemory> {
-    match attrs {
-        None => Ok(unset(table, prefix)),
-        Some(attrs) => put(alloc, table, prefix, attrs),
+/// Takes the prefix away. Tells whether it was there.
+pub fn unset(table: &mut Vec<Cell>, prefix: Prefix) -> bool
+    ensures cells { table_in table.new.items ≡ without (same_prefix prefix) (table_in table.old.items) }
+    ensures changed { result ≡ is_some (get_at same_prefix prefix (table_in table.old.items)) }
+{
+    let changed = place_of(table, prefix).is_some();
+    while let Some(place) = place_of(table, prefix) {
+        table.remove(place);
     }
+    changed
 }
 
-fn unset(table: &mut Vec<Cell>, prefix: Prefix) -> bool {
-    match place_of(table, prefix) {
-        None => false,
-        Some(place) => {
-            table.remove(place);
-            true
-        }
-    }
-}
-
-fn put(
+/// Sets the prefix to these attributes. Tells whether that changes anything.
+pub fn put(
     alloc: Global,
     table: &mut Vec<Cell>,
     prefix: Prefix,
     attrs: &[u8],
-) -> Result<bool, NoMemory> {
+) -> Result<bool, NoMemory>
+    ensures cells { OnOk result (table_in table.new.items ≡ put_at same_prefix prefix attrs.now (table_in table.old.items)) }
+    ensures changed { IfOk result (λ changed. changed
+        ≡ not (same_octets (get_at same_prefix prefix (table_in table.old.items)) (Some attrs.now))) }
+{
     let octets = Octets::from_slice(alloc, attrs)?;
     match place_of(table, prefix) {
         None => {
@@ -61,7 +58,7 @@ fn put(
 }
 
 fn place_of(table: &[Cell], prefix: Prefix) -> Option<usize>
-    ensures { IfSome result (λ place. place < length table.now) }
+    ensures { result ≡ position (λ cell. same_prefix prefix cell.prefix) table.now }
 {
-    table.iter().position(|cell| cell.prefix == prefix)
+    table.iter().position(|cell| prefix == cell.prefix)
 }

@@ -1,4 +1,4 @@
-use Rattle.std.proofs.Common.{◌≡◌, ℕ, ◌∷◌, List, ap, ◌∙◌, arith}
+use Rattle.std.proofs.Common.{ℕ, ◌∷◌, List, ap, ◌∙◌, arith}
 use Rattle.rcp_run.proofs.Lines.{one_word, one_more}
 use Rattle.rcp_run.proofs.roster_text.four_words.Goals as goal
 

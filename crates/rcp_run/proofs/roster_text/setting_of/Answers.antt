@@ -1,4 +1,4 @@
-use Rattle.std.proofs.Common.{sym, ◌∙◌}
+use Rattle.std.proofs.Common.{sym}
 use Rattle.std.proofs.lemmas.Bool.{not-true, not-false}
 use Rattle.rcp_run.proofs.Lines.{setting-none, setting-other, setting-same}
 use Rattle.rcp_run.proofs.roster_text.setting_of.Goals as goal

@@ -1,4 +1,4 @@
-use Rattle.std.proofs.Common.{length, ap, ◌<◌, arith, Some, None, ◌≡◌, ◌∙◌}
+use Rattle.std.proofs.Common.{length, ap, arith, Some, None}
 use Rattle.rcp_run.specs.Rosters.{started, words_in}
 use Rattle.rcp_run.proofs.Lines.{roster_of-few, roster_of-five}
 use Rattle.rcp_run.proofs.roster_text.settings_at.Goals as goal

@@ -1,4 +1,4 @@
-use Rattle.std.proofs.Common.{sym, ◌∙◌}
+use Rattle.std.proofs.Common.{sym}
 use Rattle.std.proofs.lemmas.Bool.{eqb-true, eqb-false}
 use Rattle.rcp_run.proofs.Lines.{lines_of-front, lines_of-last, lines_of-none}
 use Rattle.rcp_run.proofs.roster_text.split_line.Goals as goal

@@ -1,4 +1,4 @@
-use Rattle.std.proofs.Common.{◌≡◌, ◌≢◌, ℕ, ◌∷◌, List, length, ap, ◌∙◌, arith, sym}
+use Rattle.std.proofs.Common.{ℕ, ◌∷◌, List, ap, ◌∙◌, arith}
 use Rattle.rcp_run.proofs.Lines.{one_word, third_word}
 use Rattle.rcp_run.proofs.roster_text.two_words.Goals as goal
 

@@ -1,4 +1,4 @@
-use Rattle.std.proofs.Common.{◌≡◌, ℕ, take, ap, ◌∙◌, arith}
+use Rattle.std.proofs.Common.{ap, ◌∙◌, arith}
 use Rattle.std.specs.Int.{w16, from_be_bytes}
 use Rattle.rcp_run.proofs.Numbers.{neighbour-none, neighbour-front}
 use Rattle.rcp_run.proofs.routes.first_as.Goals as goal

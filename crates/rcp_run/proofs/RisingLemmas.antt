@@ -1,0 +1,112 @@
+-- Sets of prefixes as rising lists: one more at its place, and what stays rising.
+use Rattle.std.proofs.Common.{◌≡◌, ℕ, zero, suc, ◌+◌, ◌<◌, Bool, true, false, ◌&&◌, ◌||◌, eqb, ltb, List, [], ◌∷◌, ◌++◌, length, get_or, drop, Some, None, refl, sym, ap, ◌∙◌, inl, inr, arith, add-one}
+use Rattle.std.specs.List.{list_any, position, insert, AllByRecursion}
+use Rattle.std.proofs.Math.Seq.{drop-cons}
+use Rattle.std.proofs.lemmas.Bool.{cases_Bool, or_parts, or_cases, or_from, both_ways}
+use Rattle.std.proofs.lemmas.Bool.Decides.{nat_tests}
+use Rattle.rcp_base.specs.IpPrefix.{IpPrefix}
+use Rattle.rcp_model.specs.Maps.{same_prefix, is_before, include, include_all, is_among}
+use Rattle.rcp_model.specs.Control.{announced_prefixes}
+use Rattle.rcp_model.proofs.MapLemmas.{same_prefix-is, same_prefix-itself}
+use Rattle.rcp_run.specs.declared.announcements.Announcement.{Announcement}
+use Rattle.rcp_run.specs.State.{announcements_in, IsRising}
+use Rattle.rcp_run.proofs.ListMaps.{IsPlace, place_is, no_place}
+
+-- ---- one more at the first place that isn't before it
+
+abbrev ends_at : IpPrefix → IpPrefix → Bool
+ends_at p q = same_prefix p q || is_before p q
+
+include_last : (p : IpPrefix) (ps : List IpPrefix) → list_any (λ q. ends_at p q) ps ≡ false → include p ps ≡ ps ++ p ∷ []
+include_last p [] none = refl
+include_last p (q ∷ ps) none =
+    let parts = or_parts (ends_at p q) (list_any (λ q. ends_at p q) ps) none in
+    let here = or_parts (same_prefix p q) (is_before p q) parts.0 in
+    rw (here.0, here.1) (ap (λ (l : List IpPrefix). q ∷ l) (include_last p ps parts.1))
+
+include_again : (p : IpPrefix) (ps : List IpPrefix) (i : ℕ) (d : IpPrefix) → IsPlace (λ q. ends_at p q) ps i → p ≡ get_or ps i d → include p ps ≡ ps
+unfolding IsPlace
+include_again p [] i d h is = absurd h
+include_again p (q ∷ ps) zero d h is = let same : same_prefix p q ≡ true = rw (← is) (same_prefix-itself p) in rw same refl
+include_again p (q ∷ ps) (suc i) d h is =
+    let here = or_parts (same_prefix p q) (is_before p q) h.0 in
+    rw (here.0, here.1) (ap (λ (l : List IpPrefix). q ∷ l) (include_again p ps i d h.1 is))
+
+include_new : (p : IpPrefix) (ps : List IpPrefix) (i : ℕ) (d : IpPrefix) → IsPlace (λ q. ends_at p q) ps i → same_prefix p (get_or ps i d) ≡ false → include p ps ≡ insert ps i p
+unfolding IsPlace
+include_new p [] i d h other = absurd h
+include_new p (q ∷ ps) zero d h other = elim (or_cases (same_prefix p q) (is_before p q) h) [
+  | inl same ↦ absurd (both_ways (same_prefix p q) other same)
+  | inr before ↦ rw (other, before) refl
+]
+include_new p (q ∷ ps) (suc i) d h other =
+    let here = or_parts (same_prefix p q) (is_before p q) h.0 in
+    rw (here.0, here.1) (ap (λ (l : List IpPrefix). q ∷ l) (include_new p ps i d h.1 other))
+
+module _ (p : IpPrefix) (ps zs : List IpPrefix) (read : zs ≡ ps) where
+  at : (i : ℕ) → Some i ≡ position (λ q. ends_at p q) zs → IsPlace (λ q. ends_at p q) ps i
+  at i some = place_is (λ q. ends_at p q) ps i (ap (position (λ q. ends_at p q)) (sym read) ∙ sym some)
+
+  pub added_last : None ≡ position (λ q. ends_at p q) zs → ps ++ p ∷ [] ≡ include p ps
+  added_last none = sym (include_last p ps (no_place (λ q. ends_at p q) ps (ap (position (λ q. ends_at p q)) (sym read) ∙ sym none)))
+
+  pub added_again : (i : ℕ) (old : IpPrefix) → Some i ≡ position (λ q. ends_at p q) zs → old ≡ get_or ps i old → same_prefix p old ≡ true → ps ≡ include p ps
+  added_again i old some is same = sym (include_again p ps i old (at i some) (same_prefix-is p old same ∙ is))
+
+  pub added_between : (i : ℕ) (old : IpPrefix) → Some i ≡ position (λ q. ends_at p q) zs → old ≡ get_or ps i old → same_prefix p old ≡ false → insert ps i p ≡ include p ps
+  added_between i old some is other = sym (include_new p ps i old (at i some) (ap (same_prefix p) (sym is) ∙ other))
+
+-- ---- those of one announcement more
+
+pub included_step : (entries : List Announcement) (i : ℕ) (e : Announcement) (ps : List IpPrefix) → i < length entries → e ≡ get_or entries i e
+    → include_all (announced_prefixes (announcements_in (drop (i + 1) entries))) (include e.prefix ps) ≡ include_all (announced_prefixes (announcements_in (drop i entries))) ps
+included_step entries i e ps within is =
+    rw (add-one, drop-cons entries i e within) (ap (λ (x : Announcement). include_all (announced_prefixes (announcements_in (drop (suc i) entries))) (include x.prefix ps)) is)
+
+-- ---- what stays rising
+
+chain : (a b c k l m : ℕ) → (ltb a b || eqb a b && ltb k l) ≡ true → (ltb b c || eqb b c && ltb l m) ≡ true → (ltb a c || eqb a c && ltb k m) ≡ true
+chain a b c k l m h g = grind (arith, nat_tests)
+
+behind : (a b k l : ℕ) → (eqb a b && eqb k l) ≡ false → (ltb a b || eqb a b && ltb k l) ≡ false → (ltb b a || eqb b a && ltb l k) ≡ true
+behind a b k l h g = grind (arith, nat_tests)
+
+apart : (a b k l : ℕ) → (ltb a b || eqb a b && ltb k l) ≡ true → (eqb a b && eqb k l) ≡ false
+apart a b k l h = grind (arith, nat_tests)
+
+abbrev IsBelow : IpPrefix → List IpPrefix → Type 0
+IsBelow p ps = AllByRecursion (λ q. is_before p q ≡ true) ps
+
+below_chain : (p q : IpPrefix) (ps : List IpPrefix) → is_before p q ≡ true → IsBelow q ps → IsBelow p ps
+below_chain p q [] h below = tt
+below_chain p q (r ∷ ps) h below = (chain p.addr q.addr r.addr p.len q.len r.len h below.0, below_chain p q ps h below.1)
+
+below_include : (p q : IpPrefix) (ps : List IpPrefix) → is_before q p ≡ true → IsBelow q ps → IsBelow q (include p ps)
+below_include p q [] h below = (h, tt)
+below_include p q (r ∷ ps) h below =
+    elim (cases_Bool (same_prefix p r)) [
+      | inl same ↦ rw same below
+      | inr other ↦ rw other (elim (cases_Bool (is_before p r)) [
+        | inl before ↦ rw before (h, below)
+        | inr after ↦ rw after (below.0, below_include p q ps h below.1)
+      ])
+    ]
+
+pub rising-include : (p : IpPrefix) (ps : List IpPrefix) → IsRising ps → IsRising (include p ps)
+rising-include p [] rising = (tt, tt)
+rising-include p (q ∷ ps) rising =
+    elim (cases_Bool (same_prefix p q)) [
+      | inl same ↦ rw same rising
+      | inr other ↦ rw other (elim (cases_Bool (is_before p q)) [
+        | inl before ↦ rw before ((before, below_chain p q ps before rising.0), rising)
+        | inr after ↦ rw after (below_include p q ps (behind p.addr q.addr p.len q.len other after) rising.0, rising-include p ps rising.1)
+      ])
+    ]
+
+pub rising-include_all : (ps qs : List IpPrefix) → IsRising qs → IsRising (include_all ps qs)
+rising-include_all [] qs rising = rising
+rising-include_all (p ∷ ps) qs rising = rising-include_all ps (include p qs) (rising-include p qs rising)
+
+pub not_among : (p : IpPrefix) (ps : List IpPrefix) → IsBelow p ps → is_among ps p ≡ false
+not_among p [] below = refl
+not_among p (q ∷ ps) below = or_from (same_prefix p q) (is_among ps p) (apart p.addr q.addr p.len q.len below.0) (not_among p ps below.1)
