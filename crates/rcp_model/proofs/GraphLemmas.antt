@@ -64,7 +64,7 @@ pub member_of_include : (a : Edge) (edges : List Edge) (b : Edge) → Contains (
 member_of_include a [] b member = elim (Contains-cases a [] b member) [ inl same ↦ inl same | inr rest ↦ absurd (Contains-none b rest) ]
 member_of_include a (c ∷ edges) b member = at_tests (same_edge a c) (is_edge_before a c) (member_of_include a edges b) member where
   at_tests : (p q : Bool) → (Contains (include_edge a edges) b → (a ≡ b) ⊎ Contains edges b)
-    → Contains (cond p (c ∷ edges) (cond q (a ∷ c ∷ edges) (c ∷ include_edge a edges))) b → (a ≡ b) ⊎ Contains (c ∷ edges) b
+      → Contains (cond p (c ∷ edges) (cond q (a ∷ c ∷ edges) (c ∷ include_edge a edges))) b → (a ≡ b) ⊎ Contains (c ∷ edges) b
   at_tests true q rest member = inr member
   at_tests false true rest member = Contains-cases a (c ∷ edges) b member
   at_tests false false rest member = elim (Contains-cases c (include_edge a edges) b member) [
@@ -76,15 +76,15 @@ pub include-member : (a : Edge) (edges : List Edge) (b : Edge) → (a ≡ b) ⊎
 include-member a [] b member = elim member [ inl same ↦ subst (Contains (a ∷ [])) same (Contains-head a []) | inr rest ↦ absurd (Contains-none b rest) ]
 include-member a (c ∷ edges) b member = at_tests (same_edge a c) (same-edge a c) (is_edge_before a c) (include-member a edges b) where
   at_tests : (p : Bool) → (p ≡ true → a ≡ c) → (q : Bool) → ((a ≡ b) ⊎ Contains edges b → Contains (include_edge a edges) b)
-    → Contains (cond p (c ∷ edges) (cond q (a ∷ c ∷ edges) (c ∷ include_edge a edges))) b
+      → Contains (cond p (c ∷ edges) (cond q (a ∷ c ∷ edges) (c ∷ include_edge a edges))) b
   at_tests true is q rest = elim member [ inl same ↦ subst (Contains (c ∷ edges)) (sym (is refl) ∙ same) (Contains-head c edges) | inr inside ↦ inside ]
   at_tests false is true rest = elim member [ inl same ↦ subst (Contains (a ∷ c ∷ edges)) same (Contains-head a (c ∷ edges)) | inr inside ↦ Contains-tail a (c ∷ edges) b inside ]
   at_tests false is false rest = elim member [
     | inl same ↦ Contains-tail c (include_edge a edges) b (rest (inl same))
     | inr inside ↦ elim (Contains-cases c edges b inside) [
-        | inl same ↦ subst (Contains (c ∷ include_edge a edges)) same (Contains-head c (include_edge a edges))
-        | inr later ↦ Contains-tail c (include_edge a edges) b (rest (inr later))
-      ]
+      | inl same ↦ subst (Contains (c ∷ include_edge a edges)) same (Contains-head c (include_edge a edges))
+      | inr later ↦ Contains-tail c (include_edge a edges) b (rest (inr later))
+    ]
   ]
 
 -- a fact of each member
@@ -123,19 +123,21 @@ rising-same [] (y ∷ ys) rx ry same = absurd (Contains-none y ((same y).1 (Cont
 rising-same (x ∷ xs) [] rx ry same = absurd (Contains-none x ((same x).0 (Contains-head x xs)))
 rising-same (x ∷ xs) (y ∷ ys) rx ry same =
     let first : x ≡ y = heads in
-    ap₂ (λ a rest. a ∷ rest) first (rising-same xs ys (rising-tail x xs rx) (rising-tail y ys ry) (λ a.
-      (λ member. elim (Contains-cases y ys a ((same a).0 (Contains-tail x xs a member))) [ inl is ↦ absurd (not_itself x a (first ∙ is) (rising-head x xs rx a member)) | inr later ↦ later ],
-       λ member. elim (Contains-cases x xs a ((same a).1 (Contains-tail y ys a member))) [ inl is ↦ absurd (not_itself y a (sym first ∙ is) (rising-head y ys ry a member)) | inr later ↦ later ]))) where
-  not_itself : (a b : Edge) → a ≡ b → is_edge_before a b ≡ true → ⊥
-  not_itself a b is before = false≢true (sym (before-itself a) ∙ subst (λ c. is_edge_before a c ≡ true) (sym is) before)
-  heads : x ≡ y
-  heads = elim (Contains-cases y ys x ((same x).0 (Contains-head x xs))) [
-    | inl is ↦ sym is
-    | inr later ↦ elim (Contains-cases x xs y ((same y).1 (Contains-head y ys))) [
-        | inl is ↦ is
-        | inr later' ↦ absurd (false≢true (sym (before-not_back x y (rising-head x xs rx y later')) ∙ rising-head y ys ry x later))
+    ap₂ (λ a rest. a ∷ rest) first (rising-same xs ys (rising-tail x xs rx) (rising-tail y ys ry) (λ a. (
+      λ member. elim (Contains-cases y ys a ((same a).0 (Contains-tail x xs a member))) [ inl is ↦ absurd (not_itself x a (first ∙ is) (rising-head x xs rx a member)) | inr later ↦ later ],
+      λ member. elim (Contains-cases x xs a ((same a).1 (Contains-tail y ys a member))) [ inl is ↦ absurd (not_itself y a (sym first ∙ is) (rising-head y ys ry a member)) | inr later ↦ later ],
+    ))) where
+      not_itself : (a b : Edge) → a ≡ b → is_edge_before a b ≡ true → ⊥
+      not_itself a b is before = false≢true (sym (before-itself a) ∙ subst (λ c. is_edge_before a c ≡ true) (sym is) before)
+
+      heads : x ≡ y
+      heads = elim (Contains-cases y ys x ((same x).0 (Contains-head x xs))) [
+        | inl is ↦ sym is
+        | inr later ↦ elim (Contains-cases x xs y ((same y).1 (Contains-head y ys))) [
+          | inl is ↦ is
+          | inr later' ↦ absurd (false≢true (sym (before-not_back x y (rising-head x xs rx y later')) ∙ rising-head y ys ry x later))
+        ]
       ]
-  ]
 
 -- ---- how many routers there are
 
@@ -149,8 +151,9 @@ fewer_without n (m ∷ ns) member = at_test (m == n) (Contains-cases m ns n memb
     at_test : (t : Bool) → length (filter (λ m. not (m == n)) ns) ≤ length ns → length (cond (not t) (m ∷ filter (λ m. not (m == n)) ns) (filter (λ m. not (m == n)) ns)) ≤ length (m ∷ ns)
     at_test true h = omega arith
     at_test false h = omega arith
+
   at_test : (t : Bool) → (m ≡ n) ⊎ Contains ns n → (m ≡ n → t ≡ true) → (Contains ns n → length (filter (λ m. not (m == n)) ns) < length ns) → length (filter (λ m. not (m == n)) ns) ≤ length ns
-    → length (cond (not t) (m ∷ filter (λ m. not (m == n)) ns) (filter (λ m. not (m == n)) ns)) < length (m ∷ ns)
+      → length (cond (not t) (m ∷ filter (λ m. not (m == n)) ns) (filter (λ m. not (m == n)) ns)) < length (m ∷ ns)
   at_test true cases is rest fewer = omega arith
   at_test false cases is rest fewer = elim cases [ inl same ↦ absurd (false≢true (is same)) | inr later ↦ let h = rest later in omega arith ]
 
@@ -159,11 +162,11 @@ pub apart_within : (ms ns : List ℕ) → AllPairs (λ a b. a ≢ b) ms → ((n 
 apart_within [] ns apart within = omega arith
 apart_within (m ∷ ms) ns apart within =
     let rest = apart_within ms (filter (λ k. not (k == m)) ns) (λ i j d less in_range. apart (suc i) (suc j) d (omega arith) (omega arith))
-      (λ n member. filter_member (λ k. not (k == m)) ns n (within n (Contains-tail m ms n member)) (ap not (other n member (n == m) refl))) in
+    (λ n member. filter_member (λ k. not (k == m)) ns n (within n (Contains-tail m ms n member)) (ap not (other n member (n == m) refl))) in
     omega (arith, fewer_without m ns (within m (Contains-head m ms)), rest) where
-  other : (n : ℕ) → Contains ms n → (t : Bool) → (n == m) ≡ t → (n == m) ≡ false
-  other n member true same = absurd (apart 0 (suc member.0) n (omega arith) (omega arith) (sym (eqb-true n m same) ∙ sym member.2))
-  other n member false differs = differs
+      other : (n : ℕ) → Contains ms n → (t : Bool) → (n == m) ≡ t → (n == m) ≡ false
+      other n member true same = absurd (apart 0 (suc member.0) n (omega arith) (omega arith) (sym (eqb-true n m same) ∙ sym member.2))
+      other n member false differs = differs
 
 include_router-cases : (router : ℕ) (routers : List ℕ) (n : ℕ) → Contains (include_router router routers) n → (router ≡ n) ⊎ Contains routers n
 include_router-cases router routers n member = at_test (list_any (λ other. other == router) routers) member where
@@ -182,7 +185,7 @@ include_router-apart router routers apart = at_test (list_any (λ other. other =
   at_test : (t : Bool) → list_any (λ other. other == router) routers ≡ t → AllPairs (λ a b. a ≢ b) (cond t routers (router ∷ routers))
   at_test true any = apart
   at_test false none = AllPairs-cons (λ a b. a ≢ b) router routers (All-from_members (λ b. router ≢ b) routers
-    (λ b member same. false≢true (sym none ∙ any_from_member (λ other. other == router) routers b member (eq-eqb b router (sym same))))) apart
+      (λ b member same. false≢true (sym none ∙ any_from_member (λ other. other == router) routers b member (eq-eqb b router (sym same))))) apart
 
 pub routers-apart : (edges : List Edge) → AllPairs (λ a b. a ≢ b) (routers_in edges)
 routers-apart [] = λ i j d less within. absurd (omega arith)
@@ -205,9 +208,9 @@ ends_of_router [] n member = absurd (Contains-none n member)
 ends_of_router (edge ∷ edges) n member = elim (include_router-cases edge.from (include_router edge.to (routers_in edges)) n member) [
   | inl same ↦ (edge, Contains-head edge edges, inl same)
   | inr rest ↦ elim (include_router-cases edge.to (routers_in edges) n rest) [
-      | inl same ↦ (edge, Contains-head edge edges, inr same)
-      | inr later ↦ let found = ends_of_router edges n later in (found.0, Contains-tail edge edges found.0 found.1, found.2)
-    ]
+    | inl same ↦ (edge, Contains-head edge edges, inr same)
+    | inr later ↦ let found = ends_of_router edges n later in (found.0, Contains-tail edge edges found.0 found.1, found.2)
+  ]
 ]
 
 -- edges between some routers have no more of them
