@@ -1,0 +1,15 @@
+pub mod Pieces
+pub mod Cutting
+pub mod Paths
+pub mod Written
+pub mod FlagBits
+pub mod Inserting
+pub mod Types
+pub mod Judging
+pub mod Faultless
+pub mod Refusing
+pub mod Values
+pub mod Canonical
+pub mod Words
+pub mod Hops
+pub mod Again

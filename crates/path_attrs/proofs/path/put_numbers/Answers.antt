@@ -1,0 +1,8 @@
+use Rattle.std.proofs.Common.{arith}
+use Rattle.path_attrs.specs.Width.{number_octets}
+use Rattle.std.proofs.lemmas.List.Folds.{length-flat_map-take}
+use Rattle.path_attrs.proofs.path.put_numbers.Goals as goal
+
+pub put_number-end-requires : goal.put_number-end-requires
+put_number-end-requires c =
+    omega (arith, length-flat_map-take number_octets c.args.numbers.now c.loop-number.number-index 0 c.loop-number-test.true)

@@ -1,0 +1,222 @@
+//! Reading: one attribute after another, each with all its checks before the next (RFC 4271, section 6.3).
+
+ghost use Rattle.std.specs.Prelude.{◌≡◌, ◌+◌, ◌-◌, ◌==◌, ◌||◌, ◌<◌, ◌≤◌, ◌^◌, [], ◌∷◌, true, false, length, IfOk, IfErr, OnOk, IsTrue, not, is_none, List, ℕ, Some, None};
+ghost use Rattle.rcp_model.specs.Attributes as model;
+ghost use Rattle.rcp_model.specs.Attributes.{attribute_of, attribute_size, attributes_in, attributes_fault, list_fault, missing_fault, value_of, canonical_octets, is_recognised, written};
+ghost use Rattle.rcp_model.specs.Routes.{route_of};
+ghost use Rattle.path_attrs.specs.Refusals.{IfFault, fault_in};
+ghost use Rattle.path_attrs.specs.Readings.{maybe_shown, passed_on, update_fault, own_fault, next_fault, IsNext, sent_on, read_of};
+ghost use Rattle.path_attrs.specs.Shown.{shown, all_shown};
+ghost use Rattle.path_attrs.specs.Width.{number_width};
+ghost use Rattle.bgp_fault.specs.declared.Data.TheVariants.{Octet, Span};
+ghost use Rattle.std.specs.List.{list_all};
+ghost use Rattle.bgp_fault.specs.Faults.{IsWithin};
+ghost use Rattle.rcp_model.specs.Cut.{cut};
+ghost use Rattle.case_table.specs.Rows.{row_of};
+ghost use Rattle.path_attrs.specs.declared.table.TheConstants.{ROWS};
+
+use crate::attrs::{Attrs, has, insert_some};
+use crate::flags::{category, is_optional, is_transitive};
+use crate::header::{first_attribute, value_place};
+use crate::refusal::{AttrRefusal, refuse};
+use crate::table::{ANY, AS_PATH, NEXT_HOP, ORIGIN, rows};
+use crate::unrecognised::Unrecognised;
+use crate::value::Value;
+use bgp_fault::{
+    ATTRIBUTE_FLAGS_ERROR, ATTRIBUTE_LENGTH_ERROR, Data, MALFORMED_ATTRIBUTE_LIST,
+    MISSING_WELL_KNOWN_ATTRIBUTE, UNRECOGNIZED_WELL_KNOWN_ATTRIBUTE,
+};
+use case_table::{Row, Table};
+use std::alloc::Global;
+
+/// Reads the path attributes of an UPDATE (RFC 4271, section 4.3). `nlri` says whether the UPDATE announces prefixes,
+/// and so needs a route.
+///
+/// `AttrRefusal::Fault` has the first fault in the order of RFC 4271, section 6.3, its span counted in `bytes`;
+/// `AttrRefusal::NoMemory` comes where there was no room for the attributes.
+pub fn read(alloc: Global, bytes: &[u8], nlri: bool) -> Result<Attrs, AttrRefusal>
+    requires { length bytes.now ≤ 4073 }
+    ensures faultless { OnOk result (attributes_fault number_width nlri bytes.now ≡ None) }
+    ensures attributes { IfOk result (λ attrs. attrs ≡ read_of bytes.now) }
+    ensures octets { IfOk result (λ attrs. canonical_octets attrs ≡ canonical_octets (attributes_in bytes.now)) }
+    ensures route { IfOk result (λ attrs. (local_as : ℕ) → route_of number_width local_as attrs
+        ≡ route_of number_width local_as (attributes_in bytes.now)) }
+    ensures complete { IfOk result (λ attrs. nlri ≡ true → model.has_route attrs ≡ true) }
+    ensures first_fault { IfErr result (λ refusal. IfFault refusal (λ fault.
+        attributes_fault number_width nlri bytes.now ≡ Some (fault_in bytes.now fault))) }
+    ensures within { IfErr result (λ refusal. IfFault refusal (λ fault. IsWithin bytes.now fault.extra)) }
+{
+    let attrs = Attrs::new(read_list(alloc, bytes, &mut [false; 256])?);
+    if nlri {
+        need_all(&attrs)?;
+    }
+    Ok(attrs)
+}
+
+/// Refuses attributes of which a route can't be made: the first of ORIGIN, AS_PATH and NEXT_HOP that is missing.
+fn need_all(attrs: &Attrs) -> Result<(), AttrRefusal>
+    ensures complete { OnOk result (missing_fault attrs.now ≡ None) }
+    ensures missing { IfErr result (λ refusal. IfFault refusal (λ fault.
+        (body : List ℕ) → (missing_fault attrs.now ≡ Some (fault_in body fault)) × IsWithin body fault.extra)) }
+{
+    need(attrs, ORIGIN)?;
+    need(attrs, AS_PATH)?;
+    need(attrs, NEXT_HOP)
+}
+
+/// Refuses attributes of which this one is missing.
+fn need(attrs: &Attrs, kind: u8) -> Result<(), AttrRefusal>
+    ensures there { OnOk result (is_none (value_of kind attrs.now) ≡ false) }
+    ensures missing { IfErr result (λ refusal. IfFault refusal (λ fault.
+        (is_none (value_of kind attrs.now) ≡ true) × (fault ≡ update_fault 3 (Octet kind)))) }
+{
+    if has(attrs, kind) {
+        Ok(())
+    } else {
+        Err(refuse(MISSING_WELL_KNOWN_ATTRIBUTE, Data::Octet(kind)))
+    }
+}
+
+/// The values of a list of attributes, in order of type. `seen` has no type marked at first.
+fn read_list(alloc: Global, body: &[u8], seen: &mut [bool; 256]) -> Result<Vec<Value>, AttrRefusal>
+    requires short { length body.now ≤ 4073 }
+    requires types { length seen.old ≡ 256 }
+    requires unmarked { IsTrue (list_all not seen.old) }
+    ensures faultless { OnOk result (list_fault number_width [] (cut attribute_size body.now).0
+        (cut attribute_size body.now).1 ≡ None) }
+    ensures values { IfOk result (λ values. all_shown values.items ≡ sent_on (attributes_in body.now)) }
+    ensures fault { IfErr result (λ refusal. IfFault refusal (λ fault. list_fault number_width []
+        (cut attribute_size body.now).0 (cut attribute_size body.now).1 ≡ Some (fault_in body.now fault))) }
+    ensures within { IfErr result (λ refusal. IfFault refusal (λ fault. IsWithin body.now fault.extra)) }
+{
+    let table = rows();
+    let mut values = Vec::new(alloc);
+    let mut place = 0;
+    while place < body.len() {
+        let (value, len) = read_next(alloc, &table, body, place, seen)?;
+        insert_some(&mut values, value)?;
+        place += len;
+    }
+    Ok(values)
+}
+
+/// The attribute at a place of the body: it has to be whole, and its type new. What is sent on of it, if anything, and
+/// how many octets it has.
+fn read_next(
+    alloc: Global,
+    table: &Table<8>,
+    body: &[u8],
+    place: usize,
+    seen: &mut [bool; 256],
+) -> Result<(Option<Value>, usize), AttrRefusal>
+    requires table { table.now ≡ ROWS }
+    requires inside { place < length body.now }
+    requires short { length body.now ≤ 4073 }
+    requires types { length seen.old ≡ 256 }
+    ensures types { length seen.new ≡ 256 }
+    ensures faultless { OnOk result (next_fault body.now place seen.old ≡ None) }
+    ensures read { IfOk result (λ next. IsNext body.now place seen.old seen.new next.0 next.1) }
+    ensures fault { IfErr result (λ refusal. IfFault refusal (λ fault.
+        next_fault body.now place seen.old ≡ Some fault)) }
+{
+    let Some(piece) = first_attribute(&body[place..]) else {
+        return Err(refuse(MALFORMED_ATTRIBUTE_LIST, Data::None));
+    };
+    let kind = usize::from(piece[1]);
+    if seen[kind] {
+        return Err(refuse(MALFORMED_ATTRIBUTE_LIST, Data::None));
+    }
+    seen[kind] = true;
+    let value = read_attribute(alloc, table, piece, place as u16)?;
+    Ok((value, piece.len()))
+}
+
+/// A whole attribute with all its checks. What is sent on of it, if anything. `start` is where it stands in the body
+/// whose octets a fault names.
+fn read_attribute(
+    alloc: Global,
+    table: &Table<8>,
+    piece: &[u8],
+    start: u16,
+) -> Result<Option<Value>, AttrRefusal>
+    requires table { table.now ≡ ROWS }
+    requires long { 3 ≤ length piece.now }
+    requires header { model.value_place piece.now ≤ length piece.now }
+    requires short { length piece.now < 2 ^ 16 - 1 }
+    ensures faultless { OnOk result
+        (own_fault (attribute_of piece.now) (Span start (length piece.now)) ≡ None) }
+    ensures value { IfOk result (λ value. maybe_shown value ≡ passed_on (attribute_of piece.now ∷ [])) }
+    ensures fault { IfErr result (λ refusal. IfFault refusal (λ fault.
+        own_fault (attribute_of piece.now) (Span start (length piece.now)) ≡ Some fault)) }
+{
+    let span = Data::Span {
+        start,
+        len: piece.len() as u16,
+    };
+    let flags = piece[0];
+    let kind = piece[1];
+    let octets = &piece[value_place(piece)..];
+    match table.find(u16::from(kind)) {
+        Some(row) => Ok(Some(read_recognised(alloc, row, flags, octets, span)?)),
+        None => read_unrecognised(alloc, flags, kind, octets, span),
+    }
+}
+
+/// A recognised attribute, of which `row` is the table's row: its flags are checked, then its length, then its value.
+fn read_recognised(
+    alloc: Global,
+    row: &Row,
+    flags: u8,
+    octets: &[u8],
+    span: Data,
+) -> Result<Value, AttrRefusal>
+    requires row { row_of ROWS row.now.code ≡ Some row.now }
+    requires kind { row.now.code < 256 }
+    requires short { length octets.now < 2 ^ 16 - 1 }
+    ensures faultless { OnOk result
+        (own_fault (record { flags = flags; kind = row.now.code; value = octets.now }) span ≡ None) }
+    ensures value { IfOk result (λ value. shown value
+        ≡ written (record { flags = flags; kind = row.now.code; value = octets.now })) }
+    ensures fault { IfErr result (λ refusal. IfFault refusal (λ fault.
+        own_fault (record { flags = flags; kind = row.now.code; value = octets.now }) span ≡ Some fault)) }
+{
+    if u16::from(category(flags)) != row.first {
+        return Err(refuse(ATTRIBUTE_FLAGS_ERROR, span));
+    }
+    if !has_length(row, octets.len()) {
+        return Err(refuse(ATTRIBUTE_LENGTH_ERROR, span));
+    }
+    Value::read(alloc, flags, row.code as u8, octets, span)
+}
+
+/// Whether a value may have this length.
+fn has_length(row: &Row, len: usize) -> bool
+    ensures { result ≡ (row.now.second == 65535 || row.now.second == len) }
+{
+    row.second == ANY || usize::from(row.second) == len
+}
+
+/// An attribute of a type that isn't recognised: a fault where it isn't optional, dropped where it isn't transitive.
+fn read_unrecognised(
+    alloc: Global,
+    flags: u8,
+    kind: u8,
+    octets: &[u8],
+    span: Data,
+) -> Result<Option<Value>, AttrRefusal>
+    requires { is_recognised kind ≡ false }
+    ensures faultless { OnOk result (model.is_optional flags ≡ true) }
+    ensures value { IfOk result (λ value. maybe_shown value
+        ≡ passed_on (record { flags = flags; kind = kind; value = octets.now } ∷ [])) }
+    ensures fault { IfErr result (λ refusal. IfFault refusal (λ fault.
+        (model.is_optional flags ≡ false) × (fault ≡ update_fault 2 span))) }
+{
+    if !is_optional(flags) {
+        return Err(refuse(UNRECOGNIZED_WELL_KNOWN_ATTRIBUTE, span));
+    }
+    if !is_transitive(flags) {
+        return Ok(None);
+    }
+    let octets = Vec::from_slice(alloc, octets)?;
+    Ok(Some(Value::Unrecognised(Unrecognised { kind, octets })))
+}

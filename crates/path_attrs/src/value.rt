@@ -1,0 +1,217 @@
+//! The value of a path attribute, and its octets.
+
+ghost use Rattle.std.specs.Prelude.{◌≡◌, ◌+◌, ◌<◌, ◌≤◌, ◌^◌, true, false, length, slice_index, OnOk, IfOk, IfErr};
+ghost use Rattle.std.specs.Int.{w32, to_be_bytes};
+ghost use Rattle.rcp_model.specs.Attributes.{attribute_octets, has_faulty_value, has_other_length, is_recognised, written};
+ghost use Rattle.rcp_model.specs.Messages.{is_outside};
+ghost use Rattle.path_attrs.specs.Appending.{Appends};
+ghost use Rattle.path_attrs.specs.Readings.{faulty_value, update_fault};
+ghost use Rattle.path_attrs.specs.Refusals.{IfFault};
+ghost use Rattle.path_attrs.specs.Shown.{shown, header_octets, with_partial as flags_with};
+ghost use Rattle.path_attrs.specs.Width.{number_width};
+
+use crate::aggregator::{AGGREGATOR_LEN, Aggregator};
+use crate::communities::{communities_len, put_communities, read_communities};
+use crate::flags::{EXTENDED, OPTIONAL, PARTIAL, TRANSITIVE, is_partial};
+use crate::numbers::{put_u32, split_u32};
+use crate::origin::Origin;
+use crate::path::Path;
+use crate::put::put;
+use crate::refusal::{AttrRefusal, refuse};
+use crate::table::{
+    AGGREGATOR, AS_PATH, ATOMIC_AGGREGATE, COMMUNITIES, LOCAL_PREF, MULTI_EXIT_DISC, NEXT_HOP,
+    ORIGIN,
+};
+use crate::unrecognised::Unrecognised;
+use bgp_fault::{Data, INVALID_NEXT_HOP_ATTRIBUTE};
+use case_table::cases;
+use rcp_base::Addr;
+use std::alloc::Global;
+
+/// The value of an attribute that is sent on.
+#[derive(Debug, Drop)]
+pub enum Value {
+    Origin(Origin),
+    AsPath(Path),
+    NextHop(Addr),
+    MultiExitDisc(u32),
+    LocalPref(u32),
+    AtomicAggregate,
+    /// `partial` is the flag, as it was read.
+    Aggregator {
+        partial: bool,
+        aggregator: Aggregator,
+    },
+    /// `partial` is the flag, as it was read.
+    Communities {
+        partial: bool,
+        numbers: Vec<u32>,
+    },
+    Unrecognised(Unrecognised),
+}
+
+impl Value {
+    /// The type of the attribute.
+    pub fn kind(&self) -> u8
+        ensures { result ≡ (shown self.now).kind }
+    {
+        match self {
+            Value::Origin(_) => ORIGIN,
+            Value::AsPath(_) => AS_PATH,
+            Value::NextHop(_) => NEXT_HOP,
+            Value::MultiExitDisc(_) => MULTI_EXIT_DISC,
+            Value::LocalPref(_) => LOCAL_PREF,
+            Value::AtomicAggregate => ATOMIC_AGGREGATE,
+            Value::Aggregator { .. } => AGGREGATOR,
+            Value::Communities { .. } => COMMUNITIES,
+            Value::Unrecognised(other) => other.kind,
+        }
+    }
+
+    /// The flags that the attribute is sent on with, but for that of its length.
+    fn flags(&self) -> u8
+        ensures { result ≡ (shown self.now).flags }
+    {
+        match self {
+            Value::MultiExitDisc(_) => OPTIONAL,
+            Value::Aggregator { partial, .. } | Value::Communities { partial, .. } => {
+                with_partial(*partial)
+            }
+            Value::Unrecognised(_) => OPTIONAL | TRANSITIVE | PARTIAL,
+            _ => TRANSITIVE,
+        }
+    }
+
+    /// How many octets the value has.
+    fn value_len(&self) -> usize
+        requires { length (shown self.now).value < 2 ^ 16 }
+        ensures { result ≡ length (shown self.now).value }
+    {
+        match self {
+            Value::Origin(_) => 1,
+            Value::AsPath(path) => path.octets_len(),
+            Value::AtomicAggregate => 0,
+            Value::Aggregator { .. } => AGGREGATOR_LEN,
+            Value::Communities { numbers, .. } => communities_len(numbers),
+            Value::Unrecognised(other) => other.octets.len(),
+            _ => 4,
+        }
+    }
+
+    /// The value of a recognised attribute whose flags and length are those of its type. A fault of it has the span of
+    /// the attribute.
+    pub fn read(
+        alloc: Global,
+        flags: u8,
+        kind: u8,
+        octets: &[u8],
+        span: Data,
+    ) -> Result<Value, AttrRefusal>
+        requires recognised { is_recognised kind ≡ true }
+        requires length { has_other_length number_width (record { flags = flags; kind = kind; value = octets.now }) ≡ false }
+        ensures faultless { OnOk result
+            (has_faulty_value number_width (record { flags = flags; kind = kind; value = octets.now }) ≡ false) }
+        ensures value { IfOk result (λ value. shown value
+            ≡ written (record { flags = flags; kind = kind; value = octets.now })) }
+        ensures fault { IfErr result (λ refusal. IfFault refusal (λ fault.
+            (has_faulty_value number_width (record { flags = flags; kind = kind; value = octets.now }) ≡ true)
+            × (fault ≡ faulty_value kind span))) }
+    {
+        cases!(kind;
+            ORIGIN => Ok(Value::Origin(Origin::read(octets, span)?)),
+            AS_PATH => Ok(Value::AsPath(Path::read(alloc, octets)?)),
+            NEXT_HOP => Ok(Value::NextHop(read_next_hop(octets, span)?)),
+            MULTI_EXIT_DISC => Ok(Value::MultiExitDisc(read_u32(octets))),
+            LOCAL_PREF => Ok(Value::LocalPref(read_u32(octets))),
+            ATOMIC_AGGREGATE => Ok(Value::AtomicAggregate),
+            AGGREGATOR => Ok(Value::Aggregator {
+                partial: is_partial(flags),
+                aggregator: Aggregator::read(octets),
+            }),
+            COMMUNITIES => Ok(Value::Communities {
+                partial: is_partial(flags),
+                numbers: read_communities(alloc, octets, span)?,
+            });
+            _ => unreachable!()
+        )
+    }
+
+    /// Puts the attribute at a place, and gives the place behind it.
+    pub fn put(&self, out: &mut [u8], at: usize) -> usize
+        requires short { length (shown self.now).value < 2 ^ 16 }
+        requires room { at + length (attribute_octets (shown self.now)) ≤ length out.old }
+        ensures { Appends out.old at out.new result (attribute_octets (shown self.now)) }
+    {
+        let at = put_header(out, at, self.flags(), self.kind(), self.value_len());
+        self.put_value(out, at)
+    }
+
+    /// Puts the octets of the value.
+    fn put_value(&self, out: &mut [u8], at: usize) -> usize
+        requires { at + length (shown self.now).value ≤ length out.old }
+        ensures { Appends out.old at out.new result (shown self.now).value }
+    {
+        match self {
+            Value::Origin(origin) => put(out, at, &[origin.octet()]),
+            Value::AsPath(path) => path.put(out, at),
+            Value::NextHop(addr) => put_u32(out, at, addr.0),
+            Value::MultiExitDisc(number) | Value::LocalPref(number) => put_u32(out, at, *number),
+            Value::AtomicAggregate => at,
+            Value::Aggregator { aggregator, .. } => aggregator.put(out, at),
+            Value::Communities { numbers, .. } => put_communities(out, at, numbers),
+            Value::Unrecognised(other) => put(out, at, &other.octets),
+        }
+    }
+}
+
+/// The number of four octets.
+fn read_u32(octets: &[u8]) -> u32
+    requires { length octets.now ≡ 4 }
+    ensures { to_be_bytes w32 result ≡ octets.now }
+{
+    match split_u32(octets) {
+        Some((number, _)) => number,
+        None => unreachable!(),
+    }
+}
+
+/// NEXT_HOP: an address of a host, whose first octet is 1 to 223 (RFC 4271, section 6.3).
+fn read_next_hop(octets: &[u8], span: Data) -> Result<Addr, AttrRefusal>
+    requires { length octets.now ≡ 4 }
+    ensures faultless { OnOk result (is_outside 1 223 (slice_index octets.now 0) ≡ false) }
+    ensures value { IfOk result (λ addr. to_be_bytes w32 addr ≡ octets.now) }
+    ensures fault { IfErr result (λ refusal. IfFault refusal (λ fault.
+        (is_outside 1 223 (slice_index octets.now 0) ≡ true) × (fault ≡ update_fault 8 span))) }
+{
+    if matches!(octets[0], 1..=223) {
+        Ok(Addr(read_u32(octets)))
+    } else {
+        Err(refuse(INVALID_NEXT_HOP_ATTRIBUTE, span))
+    }
+}
+
+/// The flags of a recognised attribute that is optional and transitive.
+fn with_partial(partial: bool) -> u8
+    ensures { result ≡ flags_with partial }
+{
+    if partial {
+        OPTIONAL | TRANSITIVE | PARTIAL
+    } else {
+        OPTIONAL | TRANSITIVE
+    }
+}
+
+/// Puts flags, type and length: one octet of length where it suffices.
+fn put_header(out: &mut [u8], at: usize, flags: u8, kind: u8, len: usize) -> usize
+    requires flags { flags < 240 }
+    requires short { len < 2 ^ 16 }
+    requires room { at + length (header_octets flags kind len) ≤ length out.old }
+    ensures { Appends out.old at out.new result (header_octets flags kind len) }
+{
+    if len <= 255 {
+        put(out, at, &[flags, kind, len as u8])
+    } else {
+        let [high, low] = (len as u16).to_be_bytes();
+        put(out, at, &[flags + EXTENDED, kind, high, low])
+    }
+}
