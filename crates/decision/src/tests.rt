@@ -1,8 +1,6 @@
 use crate::{Candidate, choose, in_tied};
 use rcp_base::{Addr, Slot};
-use rcp_model::{Costs, Octets, Route};
-use std::sync::Arc;
-use std::test::Fail;
+use rcp_model::Costs;
 
 /// A network without routers, in which no one is reached.
 struct Unlinked;
@@ -84,32 +82,4 @@ fn the_own_route_is_chosen_where_it_is_tied(rt: HostRuntime) {
         Some(Slot(0))
     );
     assert_eq!(rt; choose(Slot(1), &[], &Unlinked), None);
-}
-
-#[test]
-fn a_candidate_has_what_is_compared_of_a_route(rt: HostRuntime) -> Result<(), Fail> {
-    let attrs = Octets::from_slice(rt.alloc(), &[])?;
-    let route = Route {
-        pref: 1,
-        hops: 2,
-        origin: 0,
-        neighbour: 4,
-        med: 5,
-        looped: false,
-        long: false,
-        next_hop: Addr(6),
-        attrs: Arc::new(rt.alloc(), attrs)?,
-    };
-    let candidate = Candidate::of(Slot(7), Addr(8), &route);
-    let want = Candidate {
-        slot: Slot(7),
-        id: Addr(8),
-        pref: 1,
-        hops: 2,
-        origin: 0,
-        neighbour: 4,
-        med: 5,
-    };
-    assert_eq!(rt; candidate, want);
-    Ok(())
 }
