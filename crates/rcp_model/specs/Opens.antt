@@ -77,5 +77,5 @@ open_fault knows as_number body =
 
 -- an OPEN without parameters
 abbrev pub open_octets : OpenFields → List ℕ
-open_octets open =
-    message_octets 1 (VERSION ∷ (to_be_bytes w16 open.as_number ++ to_be_bytes w16 open.hold ++ to_be_bytes w32 open.id ++ 0 ∷ []))
+open_octets fields =
+    message_octets 1 (VERSION ∷ (to_be_bytes w16 fields.as_number ++ to_be_bytes w16 fields.hold ++ to_be_bytes w32 fields.id ++ 0 ∷ []))
