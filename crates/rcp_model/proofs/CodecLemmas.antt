@@ -3,7 +3,7 @@ use Rattle.std.proofs.Common.{◌≡◌, ℕ, ◌≤◌, ◌<◌, Bool, true, co
 use Rattle.std.specs.Prelude.{filter, is_none}
 use Rattle.std.specs.List.{flat_map, concat, All, AllByRecursion}
 use Rattle.std.specs.Int.{w16, w32, to_be_bytes}
-use Rattle.std.proofs.lemmas.Bool.{cases_Bool, and_parts}
+use Rattle.std.proofs.lemmas.Bool.{cases_Bool}
 use Rattle.std.proofs.lemmas.List.{append-nil, length-take}
 use Rattle.std.proofs.lemmas.List.Elements.{All-take, All-drop}
 use Rattle.std.proofs.lemmas.Option.{cond_some}
@@ -13,7 +13,7 @@ use Rattle.rcp_model.specs.Messages.{FaultOf, IsMessage, messages_in}
 use Rattle.rcp_model.specs.Attributes.{attributes_in, canonical_octets}
 use Rattle.rcp_model.specs.Updates.{Table, Sections, section, after_section, has_section, sections_of, prefixes_in, update_fault, changes_of, after_message}
 use Rattle.rcp_model.specs.Feed.{FeedRecord, RosterOf}
-use Rattle.rcp_model.specs.Meaning.{cell_update, is_faultless_update, Headline}
+use Rattle.rcp_model.specs.Meaning.{cell_update, Headline}
 use Rattle.rcp_model.proofs.MapLemmas.{get_at-put_at_same, get_at-put_at_other, get_at-without_passed, get_at-without_left, prefix_test, same_prefix-is, same_prefix-other}
 use Rattle.rcp_model.proofs.SectionLemmas.{prefixes_in-in_form}
 use Rattle.rcp_model.proofs.ReadingLemmas.{messages_in-concat}
@@ -114,18 +114,16 @@ by_sections body (Some sections) all is faultless =
       again sections.attributes octets.attributes,
     )
 
-whole : (octets : List ℕ) → All (λ o. o < 256) octets → is_faultless_update octets ≡ true
-    → AllByRecursion IsPrefix (changes_of (drop 19 octets)).withdrawn × AllByRecursion IsPrefix (changes_of (drop 19 octets)).announced
-    × (canonical_octets (attributes_in (canonical_octets (changes_of (drop 19 octets)).attributes)) ≡ canonical_octets (changes_of (drop 19 octets)).attributes)
-whole octets all faultless =
-    by_sections (drop 19 octets) (sections_of (drop 19 octets)) (All-drop (λ o. o < 256) 19 octets all) refl
-    (is_none-is (update_fault w16 (drop 19 octets)) (and_parts _ _ faultless).1)
+whole : (body : List ℕ) → All (λ o. o < 256) body → update_fault w16 body ≡ None
+    → AllByRecursion IsPrefix (changes_of body).withdrawn × AllByRecursion IsPrefix (changes_of body).announced
+    × (canonical_octets (attributes_in (canonical_octets (changes_of body).attributes)) ≡ canonical_octets (changes_of body).attributes)
+whole body all faultless = by_sections body (sections_of body) all refl faultless
 
 pub reads_updates : ReadsUpdates
 reads_updates = record {
-  withdrawn = λ octets all faultless. (whole octets all faultless).0;
-  announced = λ octets all faultless. (whole octets all faultless).1;
-  attributes = λ octets all faultless. (whole octets all faultless).2;
+  withdrawn = λ body all faultless. (whole body all faultless).0;
+  announced = λ body all faultless. (whole body all faultless).1;
+  attributes = λ body all faultless. (whole body all faultless).2;
 }
 
 -- ---- the headline

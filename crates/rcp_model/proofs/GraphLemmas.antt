@@ -1,14 +1,14 @@
 -- Graphs as rising lists of edges: what is put in and taken out, and how many routers they have.
-use Rattle.std.proofs.Common.{◌≡◌, ◌≢◌, ℕ, zero, suc, ◌+◌, ◌*◌, ◌-◌, ◌<◌, ◌≤◌, Bool, true, false, cond, not, ◌&&◌, ◌||◌, ◌==◌, nat_lt, eqb, ◌⊎◌, ◌↔◌, List, [], ◌∷◌, ◌++◌, length, get_or, take, drop, filter, All, AllPairs, Contains, IsTrue, refl, sym, ap, subst, ap₂, ◌∙◌, inl, inr, arith, eqb-true, eq-eqb}
-use Rattle.std.specs.List.{list_any, AllWithin, insert}
+use Rattle.std.proofs.Common.{◌≡◌, ◌≢◌, ℕ, suc, ◌+◌, ◌*◌, ◌<◌, ◌≤◌, Bool, true, false, cond, not, ◌&&◌, ◌||◌, ◌==◌, nat_lt, ◌⊎◌, ◌↔◌, List, [], ◌∷◌, length, filter, All, AllPairs, Contains, IsTrue, refl, sym, ap, subst, ap₂, ◌∙◌, inl, inr, arith, eqb-true, eq-eqb}
+use Rattle.std.specs.List.{list_any}
 use Rattle.std.proofs.lemmas.Bool.{false≢true}
 use Rattle.std.proofs.lemmas.Bool.Decides.{nat_tests}
-use Rattle.std.proofs.lemmas.List.Elements.{All-nil, All-cons, All-head, All-tail, All-contains}
+use Rattle.std.proofs.lemmas.List.Elements.{All-nil, All-cons, All-contains}
 use Rattle.std.proofs.lemmas.List.Kept.{AllPairs-cons, AllPairs-filter}
 use Rattle.rcp_model.proofs.MemberLemmas.{Contains-head, Contains-tail, Contains-cases, Contains-none, any_member, any_from_member, filter_member, member_of_filter}
 use Rattle.rcp_model.specs.declared.event.Edge.{Edge}
 use Rattle.rcp_model.specs.Edges.{same_edge, is_edge_before, include_edge}
-use Rattle.rcp_model.specs.Graphs.{include_router, routers_in, IsGraph, exclude_edge, edges_from}
+use Rattle.rcp_model.specs.Graphs.{include_router, routers_in, IsGraph, exclude_edge}
 
 -- ---- the order of edges
 

@@ -9,8 +9,8 @@ use Rattle.rcp_model.specs.Maps.{get_at, put_at, set_at, same_prefix, is_before,
 use Rattle.rcp_model.specs.Attributes.{canonical_octets, attributes_in}
 use Rattle.rcp_model.specs.Updates.{Table}
 use Rattle.rcp_model.specs.LinkState.{same_number}
-use Rattle.rcp_model.specs.Control.{Domain, Place, Announcements, Server, Up, Change, Work, same_place, announced_by, announced_prefixes, same_octets, table_of, is_connected, is_touched, offer, worked, after}
-use Rattle.rcp_model.proofs.MapLemmas.{IsKeyTest, get_at-put_at_same, get_at-put_at_other, get_at-set_at_same, get_at-set_at_other, same_prefix-is, same_prefix-itself, same_prefix-other, prefix_test, is_among-include, is_among-include_all}
+use Rattle.rcp_model.specs.Control.{Domain, Place, Announcements, Server, Up, Down, Change, Work, same_place, announced_by, announced_prefixes, of_slot, same_octets, table_of, is_connected, is_touched, offer, worked, after}
+use Rattle.rcp_model.proofs.MapLemmas.{IsKeyTest, get_at-put_at_same, get_at-put_at_other, get_at-without_passed, get_at-without_left, get_at-set_at_same, get_at-set_at_other, same_prefix-is, same_prefix-itself, same_prefix-other, prefix_test, is_among-include, is_among-include_all}
 use Rattle.rcp_model.proofs.OfferLemmas.{offer-same, offer-none}
 
 -- ---- the tests of keys
@@ -28,7 +28,7 @@ same_place-is a b e =
 pub place_test : IsKeyTest same_place
 place_test = record { itself = λ a. and_from _ _ (eq-eqb a.0 a.0 refl) (same_prefix-itself a.1); sound = same_place-is }
 
-number-other : (m n : ℕ) → eqb m n ≡ false → eqb n m ≡ false
+pub number-other : (m n : ℕ) → eqb m n ≡ false → eqb n m ≡ false
 number-other m n h =
     elim (cases_Bool (eqb n m)) [
       | inl e ↦ let k : n ≡ m = eqb-true n m e in absurd (both_ways (eqb m n) h (eq-eqb m n (sym k)))
@@ -142,6 +142,83 @@ settled-up domain slot server h = record {
   canonical = h.canonical;
   touched = include_all-form (announced_prefixes server.announcements) server.touched h.announced h.touched;
   announced = h.announced;
+}
+
+-- ---- a router goes down
+
+-- what a slot announces is among its prefixes
+own-among : (a : Announcements) (slot : ℕ) (p : IpPrefix) (octets : List ℕ) → announced_by a slot p ≡ Some octets → is_among (announced_prefixes (of_slot slot a)) p ≡ true
+own-among [] slot p octets h = absurd cc
+own-among (entry ∷ a) slot p octets h =
+    elim (cases_Bool (same_place (slot, p) entry.0)) [
+      | inl s ↦
+          let parts = and_parts (eqb slot entry.0.0) (same_prefix p entry.0.1) s in
+          let own : eqb entry.0.0 slot ≡ true = eq-eqb entry.0.0 slot (sym (eqb-true slot entry.0.0 parts.0)) in
+          rw own (or_left (same_prefix p entry.0.1) _ parts.1)
+      | inr s ↦ elim (cases_Bool (eqb entry.0.0 slot)) [
+        | inl own ↦ rw own (or_right (same_prefix p entry.0.1) _ (own-among a slot p octets (rw s at h)))
+        | inr other ↦ rw other (own-among a slot p octets (rw s at h))
+      ]
+    ]
+
+unannounced_own : (a : Announcements) (slot : ℕ) (p : IpPrefix) → is_among (announced_prefixes (of_slot slot a)) p ≡ false → announced_by a slot p ≡ None
+unannounced_own a slot p h = by_cases (announced_by a slot p) refl where
+  by_cases : (found : Option (List ℕ)) → announced_by a slot p ≡ found → announced_by a slot p ≡ None
+  by_cases None is = is
+  by_cases (Some octets) is = absurd (both_ways (is_among (announced_prefixes (of_slot slot a)) p) h (own-among a slot p octets is))
+
+module _ (a : Announcements) (slot : ℕ) where
+  -- the announcements without those of the slot
+  left : Announcements
+  left = filter (λ entry. not (eqb entry.0.0 slot)) a
+
+  left-own : (e : ℕ) (p : IpPrefix) → eqb e slot ≡ true → announced_by left e p ≡ None
+  unfolding left
+  left-own e p own = get_at-without_passed same_place place_test (λ (place : Place). eqb place.0 slot) (e, p) a own
+
+  left-other : (e : ℕ) (p : IpPrefix) → eqb e slot ≡ false → announced_by left e p ≡ announced_by a e p
+  unfolding left
+  left-other e p other = get_at-without_left same_place place_test (λ (place : Place). eqb place.0 slot) (e, p) a other
+
+  -- at a prefix that the slot doesn't announce nothing changes
+  left-same : (e : ℕ) (p : IpPrefix) → announced_by a slot p ≡ None → announced_by a e p ≡ announced_by left e p
+  left-same e p none =
+      elim (cases_Bool (eqb e slot)) [
+        | inl own ↦ let e_is : e ≡ slot = eqb-true e slot own in
+            ap (λ (k : ℕ). announced_by a k p) e_is ∙ none ∙ sym (left-own e p own)
+        | inr other ↦ sym (left-other e p other)
+      ]
+
+  left-canonical : AreCanonical a → AreCanonical left
+  left-canonical h = record {
+    each = λ e p octets is.
+        elim (cases_Bool (eqb e slot)) [
+          | inl own ↦ let no : None ≡ Some octets = sym (left-own e p own) ∙ is in absurd cc
+          | inr other ↦ h.each e p octets (sym (left-other e p other) ∙ is)
+        ];
+  }
+
+none_some : (table : Table) → None ≡ Some table → ⊥
+none_some table e = cc
+
+pub settled-down : (domain : Domain) (slot : ℕ) (server : Server) → Settled domain server → Settled domain (after domain (Down slot) server)
+unfolding after left
+settled-down domain slot server h = record {
+  offers = λ s table p is untouched.
+      let quiet : (is_among (announced_prefixes (of_slot slot server.announcements)) p || is_among server.touched p) ≡ false
+      = sym (is_among-include_all (announced_prefixes (of_slot slot server.announcements)) server.touched p) ∙ untouched in
+      let parts = or_parts _ _ quiet in
+      elim (cases_Bool (eqb slot s)) [
+        | inl own ↦
+            absurd (none_some table (sym (get_at-without_passed same_number number_test (same_number slot) s server.tables own) ∙ is))
+        | inr other ↦
+            h.offers s table p (sym (get_at-without_left same_number number_test (same_number slot) s server.tables other) ∙ is) parts.1
+            ∙ offer-same domain server.announcements (left server.announcements slot) server.edges s p
+            (λ e. left-same server.announcements slot e p (unannounced_own server.announcements slot p parts.0))
+      ];
+  canonical = left-canonical server.announcements slot h.canonical;
+  touched = include_all-form (announced_prefixes (of_slot slot server.announcements)) server.touched (kept-form (λ entry. eqb entry.0.0 slot) server.announcements h.announced) h.touched;
+  announced = kept-form (λ entry. not (eqb entry.0.0 slot)) server.announcements h.announced;
 }
 
 -- ---- an announcement changes

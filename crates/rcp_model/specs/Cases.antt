@@ -4,7 +4,7 @@ use Rattle.rcp_model.specs.Messages.{marker}
 use Rattle.rcp_model.specs.LinkState.{LinkState, Kept, RouterLink}
 use Rattle.rcp_model.specs.Feed.{FeedRecord, RosterOf}
 use Rattle.rcp_model.specs.Meaning.{OutRecord}
-use Rattle.rcp_model.specs.Examples.{A, B, C, member, link, linked, ready, heard_on, drain_record, announcement_by}
+use Rattle.rcp_model.specs.Examples.{A, B, C, member, link, linked, ready, heard_on, drain_record, announcement_by, tie, tie_output}
 
 -- ---- what is put out
 
@@ -140,3 +140,22 @@ overlong = ready 1 1 ∷ ready 2 2 ∷ ready 3 3 ∷ heard_on 1 overlong_announc
 
 abbrev pub overlong_output : List OutRecord
 overlong_output = summary_of 3 1 0 ∷ []
+
+-- ---- an UPDATE with a fault is answered by its NOTIFICATION, and ends the session
+
+-- ORIGIN is 3
+abbrev pub faulty_announcement : List ℕ
+faulty_announcement = marker ++ (0 ∷ 52 ∷ 2 ∷ 0 ∷ 0 ∷ 0 ∷ 25 ∷ []) ++ (64 ∷ 1 ∷ 1 ∷ 3 ∷ []) ++ by_65001 ++ next_hop_at 1 ++ preferred_100 ++ the_prefix
+
+-- What comes later on the connection is of no account.
+abbrev pub faulty : List FeedRecord
+faulty = tie ++ heard_on 1 faulty_announcement ∷ heard_on 1 (1 ∷ 2 ∷ 3 ∷ []) ∷ heard_on 1 (announcement_by 1) ∷ drain_record ∷ []
+
+-- Invalid ORIGIN Attribute, with the octets of the attribute. The first router's route is gone, so that the second is told of the third's.
+abbrev pub faulty_output : List OutRecord
+faulty_output =
+    tie_output
+    ++ update_to 1 (marker ++ (0 ∷ 25 ∷ 3 ∷ 3 ∷ 6 ∷ 64 ∷ 1 ∷ 1 ∷ 3 ∷ []))
+    ∷ record { kind = 88; connection = 1; body = 1 ∷ 3 ∷ 6 ∷ [] }
+    ∷ update_to 2 (announcement_by 3)
+    ∷ summary_of 2 1 2 ∷ []

@@ -47,6 +47,9 @@ READY = 69
 abbrev pub OCTETS : ℕ
 OCTETS = 66
 
+abbrev pub CLOSED : ℕ
+CLOSED = 88
+
 abbrev pub DRAIN : ℕ
 DRAIN = 68
 

@@ -1,5 +1,5 @@
 -- Graphs: the edges of an interior network as they are kept, and the costs over them as they are listed.
-use Rattle.std.specs.Prelude.{◌≡◌, ◌≢◌, ℕ, ◌<◌, ◌≤◌, Bool, not, ◌==◌, List, [], ◌∷◌, length, filter, All, AllPairs, IsTrue, if◌then◌else◌}
+use Rattle.std.specs.Prelude.{◌≡◌, ◌≢◌, ℕ, ◌<◌, ◌≤◌, not, ◌==◌, List, [], ◌∷◌, length, filter, All, AllPairs, IsTrue, if◌then◌else◌}
 use Rattle.std.specs.List.{list_any}
 use Rattle.rcp_base.specs.declared.names.Member.{Member}
 use Rattle.rcp_model.specs.declared.event.Edge.{Edge}

@@ -1,16 +1,16 @@
 -- What a feed means: a fold over its records, which gives the events of the route control server and the records that are put out.
-use Rattle.std.specs.Prelude.{◌≡◌, ℕ, ◌+◌, ◌-◌, ◌^◌, Bool, false, not, ◌&&◌, ◌==◌, List, [], ◌∷◌, ◌++◌, length, map, drop, min, Option, Some, None, is_none, nat_lt, if◌then◌else◌}
-use Rattle.std.specs.List.{list_all}
+use Rattle.std.specs.Prelude.{◌≡◌, ℕ, ◌+◌, ◌-◌, ◌^◌, Bool, false, not, ◌&&◌, ◌==◌, List, [], ◌∷◌, ◌++◌, length, map, filter, drop, min, Option, Some, None, nat_lt, if◌then◌else◌}
+use Rattle.std.specs.List.{list_all, list_any}
 use Rattle.std.specs.Int.{w16, w32, w64, to_be_bytes, from_be_bytes}
 use Rattle.rcp_base.specs.IpPrefix.{IpPrefix}
 use Rattle.rcp_base.specs.declared.names.Member.{Member}
 use Rattle.rcp_model.specs.Maps.{get_at, include_all, same_prefix}
-use Rattle.rcp_model.specs.Messages.{message_size, type_field}
+use Rattle.rcp_model.specs.Messages.{FaultOf, message_size, type_field, notification_octets}
 use Rattle.rcp_model.specs.Attributes.{canonical_octets}
 use Rattle.rcp_model.specs.Updates.{Table, update_fault, update_octets, changes_of, Changes, replay}
 use Rattle.rcp_model.specs.Edges.{rising_edges}
-use Rattle.rcp_model.specs.Feed.{FeedRecord, RosterOf, READY, OCTETS, DRAIN, SUMMARY}
-use Rattle.rcp_model.specs.Control.{Domain, Server, ServerEvent, Up, Change, Work, after_all, table_of, is_connected, announced_prefixes, same_octets, is_touched, offer}
+use Rattle.rcp_model.specs.Feed.{FeedRecord, RosterOf, READY, OCTETS, CLOSED, DRAIN, SUMMARY}
+use Rattle.rcp_model.specs.Control.{Domain, Server, ServerEvent, Up, Down, Change, Work, after_all, table_of, is_connected, announced_prefixes, same_octets, is_touched, offer}
 
 -- ---- the state
 
@@ -25,10 +25,12 @@ pub record Connection : Type 0 where
 abbrev pub slot_in : Phase → ℕ
 slot_in (Established slot) = slot
 
--- The roster, the connections by rising number, the server, and how many UPDATEs were put out.
+-- The roster, the connections that are open by rising number, the number and the slot of each connection that was begun so
+-- far, the server, and how many UPDATEs were put out.
 pub record Platform : Type 0 where
   pub roster : RosterOf
   pub connections : List Connection
+  pub begun : List (ℕ × ℕ)
   pub server : Server
   pub updates : ℕ
 
@@ -40,6 +42,7 @@ abbrev pub fresh : RosterOf → Platform
 fresh roster = record {
   roster = roster;
   connections = [];
+  begun = [];
   server = record { tables = []; announcements = []; touched = []; edges = rising_edges roster.links };
   updates = 0;
 }
@@ -62,12 +65,9 @@ update_events slot changes =
     map (λ p. Change slot p None) changes.withdrawn
     ++ map (λ p. Change slot p (Some (canonical_octets changes.attributes))) changes.announced
 
--- the octets are one whole UPDATE without a fault
-abbrev pub is_faultless_update : List ℕ → Bool
-is_faultless_update octets =
-    (elim (message_size octets) [ None ↦ false | Some n ↦ n == length octets ])
-    && type_field octets == 2
-    && is_none (update_fault w16 (drop 19 octets))
+-- the octets are one whole UPDATE, of any content
+unfoldable pub is_whole_update : List ℕ → Bool
+is_whole_update octets = (elim (message_size octets) [ None ↦ false | Some n ↦ n == length octets ]) && type_field octets == 2
 
 abbrev pub work_events : List IpPrefix → List ServerEvent
 work_events touched = map Work touched
@@ -122,28 +122,63 @@ summary server updates = record {
   body = counted (length server.tables) ++ counted (length (include_all (announced_prefixes server.announcements) [])) ++ counted updates;
 }
 
+-- why a connection was closed: by a fault in what it sent
+abbrev pub BY_FAULT : ℕ
+BY_FAULT = 1
+
+-- the end of a connection, with the code and subcode that a NOTIFICATION named
+abbrev pub ended : ℕ → ℕ → ℕ → ℕ → OutRecord
+ended number reason code sub = record { kind = CLOSED; connection = number; body = reason ∷ code ∷ sub ∷ [] }
+
 -- ---- the step
 
--- A connection number above each earlier one, and not 0.
-abbrev pub is_new_number : List Connection → ℕ → Bool
-is_new_number connections number = nat_lt 0 number && list_all (λ connection. nat_lt connection.number number) connections
+abbrev pub was_begun : List (ℕ × ℕ) → ℕ → Bool
+was_begun begun number = list_any (λ entry. entry.0 == number) begun
 
+-- A connection number above each earlier one, and not 0.
+abbrev pub is_new_number : List (ℕ × ℕ) → ℕ → Bool
+is_new_number begun number = nat_lt 0 number && list_all (λ entry. nat_lt entry.0 number) begun
+
+-- The router of a slot that isn't connected connects.
 abbrev pub seated : Platform → ℕ → Option ℕ → Platform
 seated platform number None = platform
 seated platform number (Some slot) =
-    if is_new_number platform.connections number && not (is_connected platform.server slot)
+    if is_new_number platform.begun number && not (is_connected platform.server slot)
     then record platform {
       connections = platform.connections ++ record { number = number; phase = Established slot } ∷ [];
+      begun = platform.begun ++ (number, slot) ∷ [];
       server = after_all (domain_of platform.roster) (Up slot ∷ []) platform.server;
     }
     else platform
 
+-- the connection of a slot is closed
+abbrev pub closed : Platform → ℕ → Platform
+closed platform slot = record platform {
+  connections = filter (λ connection. not (slot_in connection.phase == slot)) platform.connections;
+  server = after_all (domain_of platform.roster) (Down slot ∷ []) platform.server;
+}
+
+-- The body of an UPDATE comes from a slot: it counts where it has no fault, and else its first fault ends the session.
+abbrev pub updated : Platform → ℕ → List ℕ → Option FaultOf → Platform
+updated platform slot body None =
+    record platform { server = after_all (domain_of platform.roster) (update_events slot (changes_of body)) platform.server }
+updated platform slot body (Some why) = closed platform slot
+
 abbrev pub heard : Platform → List ℕ → Option ℕ → Platform
 heard platform octets None = platform
 heard platform octets (Some slot) =
-    if is_faultless_update octets
-    then record platform { server = after_all (domain_of platform.roster) (update_events slot (changes_of (drop 19 octets))) platform.server }
+    if is_whole_update octets
+    then updated platform slot (drop 19 octets) (update_fault w16 (drop 19 octets))
     else platform
+
+-- the NOTIFICATION of a fault and the end of the connection
+abbrev pub fault_output : ℕ → Option FaultOf → List OutRecord
+fault_output number None = []
+fault_output number (Some why) = messages_to number (notification_octets why ∷ []) ++ ended number BY_FAULT why.code why.sub ∷ []
+
+abbrev pub heard_output : ℕ → List ℕ → Option ℕ → List OutRecord
+heard_output number octets None = []
+heard_output number octets (Some slot) = if is_whole_update octets then fault_output number (update_fault w16 (drop 19 octets)) else []
 
 -- every touched prefix is worked
 abbrev pub drained_server : Platform → Server
@@ -165,9 +200,8 @@ step platform item =
 
 unfoldable pub output : Platform → FeedRecord → List OutRecord
 output platform item =
-    if item.kind == DRAIN
-    then drain_messages platform ++ summary (drained_server platform) (drain platform).updates ∷ []
-    else []
+    if item.kind == OCTETS then heard_output item.source item.body (slot_on platform.connections item.source) else (
+    if item.kind == DRAIN then drain_messages platform ++ summary (drained_server platform) (drain platform).updates ∷ [] else [])
 
 -- ---- runs
 

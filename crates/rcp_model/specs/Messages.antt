@@ -92,3 +92,7 @@ rest_of octets = (cut message_size octets).1
 -- a message of a type with a body
 abbrev pub message_octets : ℕ → List ℕ → List ℕ
 message_octets kind body = marker ++ to_be_bytes w16 (19 + length body) ++ kind ∷ body
+
+-- a NOTIFICATION (section 4.5) of a fault
+abbrev pub notification_octets : FaultOf → List ℕ
+notification_octets why = message_octets 3 (why.code ∷ why.sub ∷ why.content)

@@ -1,41 +1,21 @@
 -- The plain form of feed that is read today: which records are of the form, and what a whole feed comes to.
-use Rattle.std.specs.Prelude.{◌≡◌, ℕ, ◌+◌, ◌^◌, Bool, false, not, ◌&&◌, ◌==◌, List, [], ◌∷◌, ◌++◌, length, take, drop, map, Option, Some, None, is_some, nat_lt, nat_le, if◌then◌else◌, bytes_eq}
-use Rattle.std.specs.List.{list_all, flat_map}
-use Rattle.std.specs.Int.{w16, w32, from_be_bytes}
-use Rattle.rcp_model.specs.Attributes.{Attribute, Segment, ORIGIN, AS_PATH, NEXT_HOP, LOCAL_PREF, AS_SEQUENCE, attributes_in}
-use Rattle.rcp_model.specs.Routes.{path_of}
-use Rattle.rcp_model.specs.Updates.{Sections, sections_of}
-use Rattle.rcp_model.specs.Control.{is_connected}
+use Rattle.std.specs.Prelude.{◌≡◌, ℕ, ◌+◌, ◌^◌, Bool, false, not, ◌&&◌, ◌==◌, List, [], ◌∷◌, ◌++◌, length, take, Option, Some, None, nat_lt, nat_le, if◌then◌else◌}
+use Rattle.std.specs.List.{list_any, flat_map}
+use Rattle.std.specs.Int.{w32, from_be_bytes}
 use Rattle.rcp_model.specs.Feed.{FeedRecord, RosterOf, ROSTER, READY, OCTETS, DRAIN, FINISH, records_in, roster_of}
-use Rattle.rcp_model.specs.Meaning.{Platform, fresh, slot_from, slot_on, is_new_number, is_faultless_update, out_octets, step, all_output, Headline}
+use Rattle.rcp_model.specs.Meaning.{Platform, fresh, slot_from, slot_on, was_begun, is_new_number, is_whole_update, out_octets, step, all_output, Headline}
 
 -- ---- records of the form
 
--- one AS_SEQUENCE and nothing else
-abbrev pub is_one_sequence : List Segment → Bool
-is_one_sequence [] = false
-is_one_sequence (segment ∷ []) = segment.kind == AS_SEQUENCE
-is_one_sequence (segment ∷ other ∷ segments) = false
-
--- ORIGIN, AS_PATH, NEXT_HOP and LOCAL_PREF, each once and in this order, with the flags of a well-known attribute
-abbrev pub is_plain_list : List Attribute → Bool
-is_plain_list attributes =
-    bytes_eq (map (λ a. a.kind) attributes) (ORIGIN ∷ AS_PATH ∷ NEXT_HOP ∷ LOCAL_PREF ∷ [])
-    && list_all (λ a. a.flags == 64) attributes
-    && is_one_sequence (path_of w16 attributes)
-
-abbrev pub are_plain_sections : Option Sections → Bool
-are_plain_sections None = false
-are_plain_sections (Some sections) =
-    length sections.withdrawn == 0 && not (length sections.nlri == 0) && is_plain_list (attributes_in sections.attributes)
-
--- one whole faultless UPDATE that withdraws nothing, announces something, and has a plain list of attributes
-unfoldable pub is_plain_update : List ℕ → Bool
-is_plain_update octets = is_faultless_update octets && are_plain_sections (sections_of (drop 19 octets))
-
+-- the router of a slot that no connection was begun for, and a number above each earlier one
 abbrev pub may_be_seated : Platform → ℕ → Option ℕ → Bool
 may_be_seated platform number None = false
-may_be_seated platform number (Some slot) = is_new_number platform.connections number && not (is_connected platform.server slot)
+may_be_seated platform number (Some slot) = is_new_number platform.begun number && not (list_any (λ entry. slot == entry.1) platform.begun)
+
+-- One whole UPDATE on a connection that is open. What comes on one that was closed may be anything.
+abbrev pub may_be_heard : Platform → ℕ → List ℕ → Option ℕ → Bool
+may_be_heard platform number octets None = was_begun platform.begun number
+may_be_heard platform number octets (Some slot) = is_whole_update octets
 
 -- whether a kind, a source and a length may be those of a record of the form
 abbrev pub may_be : ℕ → ℕ → ℕ → Bool
@@ -54,7 +34,7 @@ unfoldable pub has_form : Platform → FeedRecord → Bool
 has_form platform item =
     is_plausible item && (
     if item.kind == READY then may_be_seated platform item.source (slot_from 0 platform.roster.members (from_be_bytes w32 item.body)) else (
-    if item.kind == OCTETS then is_some (slot_on platform.connections item.source) && is_plain_update item.body else
+    if item.kind == OCTETS then may_be_heard platform item.source item.body (slot_on platform.connections item.source) else
     item.kind == DRAIN))
 
 abbrev pub is_end : FeedRecord → Bool

@@ -3,6 +3,7 @@ ghost use Rattle.rcp_model.specs.Routes.{IsRoute};
 
 use crate::octets::Octets;
 use rcp_base::Addr;
+use std::alloc::AllocError;
 use std::marker::Model;
 use std::sync::Arc;
 
@@ -70,5 +71,25 @@ impl Route {
         ensures in_form { IsRoute self.now }
     {
         self.attrs.as_slice()
+    }
+}
+
+impl Clone for Route {
+    ghost is_clone = { λ route copy. copy ≡ route };
+
+    /// Takes memory only for the count of those that share the octets.
+    fn clone(&self) -> Result<Route, AllocError> {
+        let attrs = self.attrs.clone()?;
+        Ok(Route {
+            pref: self.pref,
+            hops: self.hops,
+            origin: self.origin,
+            neighbour: self.neighbour,
+            med: self.med,
+            looped: self.looped,
+            long: self.long,
+            next_hop: self.next_hop,
+            attrs,
+        })
     }
 }

@@ -4,7 +4,7 @@ ghost use Rattle.std.specs.Prelude.{◌≡◌, []};
 ghost use Rattle.rcp_model.specs.Edges.{edges_of};
 ghost use Rattle.rcp_model.specs.Meaning.{fresh, all_output};
 ghost use Rattle.rcp_model.specs.Examples.{A, B, link, linked, tie, tie_output};
-ghost use Rattle.rcp_model.specs.Cases.{starred, lower_exit, lower_exit_output, loop, loop_output, withdrawn_and_announced, withdrawn_and_announced_output, lone, alone, alone_output, longest, longest_output, overlong, overlong_output, lone_link_state};
+ghost use Rattle.rcp_model.specs.Cases.{starred, lower_exit, lower_exit_output, loop, loop_output, withdrawn_and_announced, withdrawn_and_announced_output, lone, alone, alone_output, longest, longest_output, overlong, overlong_output, lone_link_state, faulty, faulty_output};
 
 /// Two routers announce a prefix at equal interior costs from the third (RFC 4271 section 9.1.2.2 f): the one with the lower
 /// BGP Identifier is chosen. Both keep their own route, and are sent nothing.
@@ -44,4 +44,10 @@ pub fn longest_route_is_sent()
 /// announced, but nobody is offered it.
 pub fn overlong_route_is_no_candidate()
     ensures { all_output (fresh linked) overlong ≡ overlong_output }
+{}
+
+/// An UPDATE with a fault is answered by a NOTIFICATION with the fault's data (section 6.3), and ends the session: the
+/// routes that the router announced are gone, and what comes later on the connection changes nothing.
+pub fn faulty_update_ends_the_session()
+    ensures { all_output (fresh linked) faulty ≡ faulty_output }
 {}
