@@ -1,7 +1,9 @@
 pub mod Lengths
 pub mod Prefixes
-pub mod Headers
-pub mod FourAttributes
-pub mod Sequences
-pub mod Plain
-pub mod Whole
+pub mod Sections
+pub mod Walks
+pub mod Again
+pub mod HeaderFaults
+pub mod Holding
+pub mod Feeding
+pub mod Handing

@@ -1,1 +1,5 @@
-pub mod Narrow
+pub mod Faults
+pub mod HeaderFields
+pub mod Written
+pub mod Cutting
+pub mod Ends

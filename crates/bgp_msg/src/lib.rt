@@ -13,11 +13,25 @@
 //! ```
 #![tactic(auto)]
 
-mod narrow;
-mod writing;
+mod cutter;
+mod header;
+mod keepalive;
+mod laws;
+mod notification;
+mod put;
+mod update;
 
-pub use narrow::{NarrowUpdate, next_prefix, read_narrow};
-pub use writing::{MOST_OCTETS, write_update};
+pub use cutter::{Cutter, Message};
+pub use header::{
+    HEADER_LEN, Header, KEEPALIVE, MARKER, MOST_OCTETS, NOTIFICATION, OPEN, UPDATE, read_header,
+};
+pub use keepalive::write_keepalive;
+pub use laws::{
+    written_keepalive_is_read_again, written_notification_is_read_again,
+    written_update_is_read_again,
+};
+pub use notification::write_notification;
+pub use update::{Update, check_prefixes, next_prefix, read_update, write_update};
 
 #[cfg(test)]
 mod tests;

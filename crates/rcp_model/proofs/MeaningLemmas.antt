@@ -73,7 +73,7 @@ changes-tables domain slot octets [] server = refl
 changes-tables domain slot octets (p ∷ ps) server =
     changes-tables domain slot octets ps (after domain (Change slot p octets) server) ∙ change-tables domain slot p octets server
 
-after_all-append : (domain : Domain) (events more : List ServerEvent) (server : Server) → after_all domain (events ++ more) server ≡ after_all domain more (after_all domain events server)
+pub after_all-append : (domain : Domain) (events more : List ServerEvent) (server : Server) → after_all domain (events ++ more) server ≡ after_all domain more (after_all domain events server)
 unfolding after_all
 after_all-append domain [] more server = refl
 after_all-append domain (event ∷ events) more server = after_all-append domain events more (after domain event server)

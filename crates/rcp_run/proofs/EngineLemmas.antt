@@ -14,25 +14,27 @@ use Rattle.std.proofs.lemmas.Bool.Decides.{nat_tests}
 use Rattle.std.proofs.lemmas.Slice.Eq.{bytes_eq-Decides}
 use Rattle.rcp_base.specs.IpPrefix.{IpPrefix}
 use Rattle.rcp_model.specs.declared.event.Edge.{Edge}
-use Rattle.rcp_model.specs.Maps.{get_at, put_at, set_at, same_prefix, include, include_all, is_among}
+use Rattle.rcp_model.specs.Maps.{get_at, put_at, set_at, without, same_prefix, include, include_all, is_among}
 use Rattle.rcp_model.specs.Attributes.{canonical_octets, attributes_in}
-use Rattle.rcp_model.specs.Updates.{Table, changes_of}
+use Rattle.rcp_model.specs.Updates.{Table, changes_of, prefixes_in, sections_of, update_fault}
 use Rattle.rcp_model.specs.LinkState.{same_number}
 use Rattle.rcp_base.specs.declared.names.Member.{Member}
 use Rattle.rcp_model.specs.Costs.{cost}
 use Rattle.rcp_model.specs.Routes.{RouteFields, route_of, route_in}
 use Rattle.rcp_model.specs.Edges.{rising_edges}
-use Rattle.rcp_model.specs.Control.{Domain, Server, Up, Change, Work, same_place, same_octets, announced_by, announced_prefixes, table_of, is_connected, router_at, cost_between, slot_cost, offer, after, after_all}
+use Rattle.rcp_model.specs.Control.{Domain, Place, Announcements, Server, Up, Down, Change, Work, same_place, same_octets, announced_by, announced_prefixes, of_slot, table_of, is_connected, router_at, cost_between, slot_cost, offer, after, after_all}
 use Rattle.rcp_model.specs.Feed.{OCTETS, SUMMARY}
-use Rattle.rcp_model.specs.Meaning.{Established, slot_in, Platform, domain_of, fresh, slot_from, slot_on, update_events, is_faultless_update, work_events, OutRecord, out_octets, cell_update, cell_of, changed_cells, messages_to, drained, counted, summary, is_new_number, seated, heard, drained_server, drain_messages, drain}
+use Rattle.rcp_model.specs.Meaning.{Established, slot_in, Platform, domain_of, fresh, slot_from, slot_on, is_whole_update, work_events, OutRecord, out_octets, cell_update, cell_of, changed_cells, messages_to, drained, counted, summary, was_begun, is_new_number, seated, closed, heard, drained_server, drain_messages, drain}
 use Rattle.rcp_model.specs.Meaning as meaning
-use Rattle.rcp_model.specs.Plain.{may_be_seated, is_plain_update}
+use Rattle.rcp_model.specs.Plain.{may_be_seated}
 use Rattle.rcp_model.proofs.MapLemmas.{IsKeyTest, get_at-set_at_same, get_at-set_at_other, same_prefix-is, same_prefix-itself, same_prefix-other, prefix_test}
-use Rattle.rcp_model.proofs.CodecLemmas.{reads_updates}
-use Rattle.rcp_model.proofs.ServerLemmas.{place_test}
+use Rattle.rcp_model.proofs.MeaningLemmas.{after_all-append}
+use Rattle.rcp_model.proofs.ServerLemmas.{number-other, place_test}
+use Rattle.rcp_run.specs.declared.announcements.Announcement.{Announcement}
+use Rattle.rcp_run.specs.declared.engine.Begun.{Begun}
 use Rattle.rcp_run.specs.declared.engine.Connection.{Connection}
 use Rattle.rcp_run.specs.declared.costs.Reached.{Reached}
-use Rattle.rcp_run.specs.State.{cost_in, cost_to, costs_in, IsKeptRoute, Session, session_in, sessions_in, connection_of, seat_of, IsRising, AreOfSlots, table_told, cell_told, updates_told, session_told, messages_told, all_told}
+use Rattle.rcp_run.specs.State.{cost_in, cost_to, costs_in, IsKept, IsKeptRoute, Session, entry_in, announcements_in, session_in, sessions_in, connection_of, seat_of, begun_in, IsRising, AreOfSlots, AreNamed, changed_of, not_announced, without_slot, table_told, cell_told, updates_told, session_told, messages_told, all_told}
 use Rattle.rcp_run.proofs.RisingLemmas.{not_among}
 use Rattle.rcp_run.proofs.RelaxLemmas.{cost-rising}
 use Rattle.rcp_run.proofs.DecisionLemmas.{router-at, router-past}
@@ -42,8 +44,8 @@ use Rattle.rcp_run.proofs.DecisionLemmas.{router-at, router-past}
 pub server_is : (s t : Server) → s.tables ≡ t.tables → s.announcements ≡ t.announcements → s.touched ≡ t.touched → s.edges ≡ t.edges → s ≡ t
 server_is s t a b c d = λ i. record { tables = a i; announcements = b i; touched = c i; edges = d i }
 
-pub platform_is : (p q : Platform) → p.roster ≡ q.roster → p.connections ≡ q.connections → p.server ≡ q.server → p.updates ≡ q.updates → p ≡ q
-platform_is p q a b c d = λ i. record { roster = a i; connections = b i; server = c i; updates = d i }
+pub platform_is : (p q : Platform) → p.roster ≡ q.roster → p.connections ≡ q.connections → p.begun ≡ q.begun → p.server ≡ q.server → p.updates ≡ q.updates → p ≡ q
+platform_is p q a b c d e = λ i. record { roster = a i; connections = b i; begun = c i; server = d i; updates = e i }
 
 -- ---- maps
 
@@ -75,17 +77,23 @@ same_octets-is (Some a) (Some b) e = ap Some ((bytes_eq-Decides a b).0 e)
 
 -- ---- sessions
 
-pub connected-any : (cs : List Connection) (slot : ℕ) → is_some (get_at same_number slot (map seat_of (sessions_in cs))) ≡ list_any (λ (c : Connection). eqb slot c.slot) cs
-connected-any [] slot = refl
-connected-any (c ∷ cs) slot =
-    elim (cases_Bool (eqb slot c.slot)) [
-      | inl e ↦ rw e refl
-      | inr e ↦ rw e (connected-any cs slot)
+-- no session has a slot that no connection was begun for
+named_absent : (begun : List Begun) (ss : List Session) (slot : ℕ) → AreNamed begun ss → list_any (λ (b : Begun). eqb slot b.slot) begun ≡ false → get_at same_number slot (map seat_of ss) ≡ None
+named_absent begun [] slot named out = refl
+named_absent begun (s ∷ ss) slot named out =
+    elim (cases_Bool (eqb slot s.slot)) [
+      | inl e ↦
+          let slot_is : slot ≡ s.slot = eqb-true slot s.slot e in
+          absurd (both_ways (list_any (λ (b : Begun). eqb slot b.slot) begun) out (ap (λ (n : ℕ). list_any (λ (b : Begun). eqb n b.slot) begun) slot_is ∙ named.0))
+      | inr e ↦ rw e (named_absent begun ss slot named.1 out)
     ]
 
-pub below-all : (cs : List Connection) (number : ℕ) → list_all (λ (c : meaning.Connection). ltb c.number number) (map connection_of (sessions_in cs)) ≡ list_all (λ (c : Connection). ltb c.number number) cs
-below-all cs number =
-    list_all-map (λ (c : meaning.Connection). ltb c.number number) connection_of (sessions_in cs) ∙ list_all-map (λ (s : Session). ltb s.number number) session_in cs
+list_any-map : {X Y : Type 0} (test : Y → Bool) (f : X → Y) (xs : List X) → list_any test (map f xs) ≡ list_any (λ x. test (f x)) xs
+list_any-map test f [] = refl
+list_any-map test f (x ∷ xs) = ap (λ (b : Bool). test (f x) || b) (list_any-map test f xs)
+
+pub begun_before : (begun : List Begun) (number : ℕ) → was_begun (map begun_in begun) number ≡ list_any (λ (b : Begun). eqb b.number number) begun
+begun_before begun number = list_any-map (λ (entry : ℕ × ℕ). eqb entry.0 number) begun_in begun
 
 pub slot_on-seated : (ss : List Session) (number slot : ℕ) → slot_on (map connection_of ss) number ≡ Some slot → is_some (get_at same_number slot (map seat_of ss)) ≡ true
 slot_on-seated [] number slot is = absurd cc
@@ -103,12 +111,22 @@ slot_on-seated (s ∷ ss) number slot is =
 
 -- ---- a router connects
 
-pub may_seat : (p : Platform) (cs : List Connection) (number slot : ℕ) (found : Option ℕ) (new : Bool) → p.connections ≡ map connection_of (sessions_in cs) → p.server.tables ≡ map seat_of (sessions_in cs) → 0 < number
-    → found ≡ Some slot → new ≡ (list_all (λ (c : Connection). ltb c.number number) cs && not (list_any (λ (c : Connection). eqb slot c.slot) cs)) → may_be_seated p number found ≡ new
-may_seat p cs number slot found new connections tables above some is =
-    rw (some, connections, tables, below-all cs number, connected-any cs slot, number_above) (sym is) where
+pub may_seat : (p : Platform) (begun : List Begun) (number slot : ℕ) (found : Option ℕ) (new : Bool) → p.begun ≡ map begun_in begun → 0 < number
+    → found ≡ Some slot → new ≡ (list_all (λ (b : Begun). ltb b.number number) begun && not (list_any (λ (b : Begun). eqb slot b.slot) begun)) → may_be_seated p number found ≡ new
+may_seat p begun number slot found new are above some is =
+    rw (some, are, list_all-map (λ (entry : ℕ × ℕ). ltb entry.0 number) begun_in begun, list_any-map (λ (entry : ℕ × ℕ). eqb slot entry.1) begun_in begun, number_above) (sym is) where
       number_above : ltb 0 number ≡ true
       number_above = grind (arith, nat_tests)
+
+-- no session has the slot where a connection may be begun for it
+pub unseated : (p : Platform) (begun : List Begun) (ss : List Session) (number slot : ℕ) (found : Option ℕ) → p.begun ≡ map begun_in begun → p.server.tables ≡ map seat_of ss → AreNamed begun ss
+    → found ≡ Some slot → may_be_seated p number found ≡ true → table_of p.server slot ≡ None
+unseated p begun ss number slot found are tables named some may =
+    let one : (is_new_number p.begun number && not (list_any (λ (entry : ℕ × ℕ). eqb slot entry.1) p.begun)) ≡ true = rw some at may in
+    let parts = and_parts (is_new_number p.begun number) (not (list_any (λ (entry : ℕ × ℕ). eqb slot entry.1) p.begun)) one in
+    let out : list_any (λ (b : Begun). eqb slot b.slot) begun ≡ false =
+    sym (list_any-map (λ (entry : ℕ × ℕ). eqb slot entry.1) begun_in begun) ∙ ap (list_any (λ (entry : ℕ × ℕ). eqb slot entry.1)) (sym are) ∙ not-true _ parts.1 in
+    rw tables (named_absent begun ss slot named out)
 
 raised_server : (p : Platform) (slot : ℕ) → table_of p.server slot ≡ None → after_all (domain_of p.roster) (Up slot ∷ []) p.server
     ≡ record { tables = p.server.tables ++ (slot, []) ∷ []; announcements = p.server.announcements; touched = include_all (announced_prefixes p.server.announcements) p.server.touched; edges = p.server.edges }
@@ -116,29 +134,27 @@ unfolding after_all after
 raised_server p slot absent = ap (λ (t : List (ℕ × Table)). let s : Server = record { tables = t; announcements = p.server.announcements; touched = include_all (announced_prefixes p.server.announcements) p.server.touched; edges = p.server.edges } in s)
     (put_new same_number slot [] p.server.tables absent)
 
-none_from : (found : Option Table) → is_some found ≡ false → found ≡ None
-none_from None h = refl
-none_from (Some table) h = absurd cc
-
 -- the platform with one session more
-pub seated_one : (p q : Platform) (ss ts : List Session) (number slot : ℕ) (found : Option ℕ) → p.connections ≡ map connection_of ss → p.server.tables ≡ map seat_of ss → found ≡ Some slot
-    → may_be_seated p number found ≡ true → ts ≡ ss ++ record { number = number; slot = slot; table = [] } ∷ []
-    → q.roster ≡ p.roster → q.connections ≡ map connection_of ts → q.server.tables ≡ map seat_of ts → q.server.announcements ≡ p.server.announcements
+pub seated_one : (p q : Platform) (ss ts : List Session) (begun now : List Begun) (number slot : ℕ) (found : Option ℕ) → p.connections ≡ map connection_of ss → p.server.tables ≡ map seat_of ss
+    → p.begun ≡ map begun_in begun → found ≡ Some slot → table_of p.server slot ≡ None
+    → may_be_seated p number found ≡ true → ts ≡ ss ++ record { number = number; slot = slot; table = [] } ∷ [] → now ≡ begun ++ record { number = number; slot = slot } ∷ []
+    → q.roster ≡ p.roster → q.connections ≡ map connection_of ts → q.begun ≡ map begun_in now → q.server.tables ≡ map seat_of ts → q.server.announcements ≡ p.server.announcements
     → q.server.touched ≡ include_all (announced_prefixes p.server.announcements) p.server.touched → q.server.edges ≡ p.server.edges → q.updates ≡ p.updates
     → q ≡ seated p number found
-seated_one p q ss ts number slot found connections tables some may more roster connections' tables' announcements touched edges updates =
-    let one : (is_new_number p.connections number && not (is_connected p.server slot)) ≡ true = rw some at may in
-    let parts = and_parts (is_new_number p.connections number) (not (is_connected p.server slot)) one in
-    let absent : table_of p.server slot ≡ None = none_from (table_of p.server slot) (not-true _ parts.1) in
+seated_one p q ss ts begun now number slot found connections tables are some absent may more one_more roster connections' are' tables' announcements touched edges updates =
+    let one : (is_new_number p.begun number && not (list_any (λ (entry : ℕ × ℕ). eqb slot entry.1) p.begun)) ≡ true = rw some at may in
+    let new : is_new_number p.begun number ≡ true = (and_parts (is_new_number p.begun number) _ one).0 in
     let server : q.server ≡ after_all (domain_of p.roster) (Up slot ∷ []) p.server =
     server_is q.server (record { tables = p.server.tables ++ (slot, []) ∷ []; announcements = p.server.announcements; touched = include_all (announced_prefixes p.server.announcements) p.server.touched; edges = p.server.edges })
     (tables' ∙ ap (map seat_of) more ∙ map-append seat_of ss (record { number = number; slot = slot; table = [] } ∷ []) ∙ ap (λ (l : List (ℕ × Table)). l ++ (slot, []) ∷ []) (sym tables)) announcements touched edges
     ∙ sym (raised_server p slot absent) in
-    rw (some, one) (platform_is q (record p {
+    rw (some, new, absent) (platform_is q (record p {
       connections = p.connections ++ record { number = number; phase = Established slot } ∷ [];
+      begun = p.begun ++ (number, slot) ∷ [];
       server = after_all (domain_of p.roster) (Up slot ∷ []) p.server;
     }) roster
     (connections' ∙ ap (map connection_of) more ∙ map-append connection_of ss (record { number = number; slot = slot; table = [] } ∷ []) ∙ ap (λ (l : List meaning.Connection). l ++ record { number = number; phase = Established slot } ∷ []) (sym connections))
+    (are' ∙ ap (map begun_in) one_more ∙ map-append begun_in begun (record { number = number; slot = slot } ∷ []) ∙ ap (λ (l : List (ℕ × ℕ)). l ++ (number, slot) ∷ []) (sym are))
     server updates)
 
 all_push : {X : Type 0} (P : X → Type 0) (xs : List X) (y : X) → AllByRecursion P xs → P y → AllByRecursion P (xs ++ y ∷ [])
@@ -153,59 +169,144 @@ slots_push (s ∷ ss) t slots absent =
       | inr e ↦ (all_push (λ (u : Session). (u.slot ≡ s.slot) → ⊥) ss t slots.0 (λ same. both_ways (eqb t.slot s.slot) e (eq-eqb t.slot s.slot same)), slots_push ss t slots.1 (rw e at absent))
     ]
 
-pub slots_push_new : (p : Platform) (ss ts : List Session) (number slot : ℕ) (found : Option ℕ) → p.server.tables ≡ map seat_of ss → found ≡ Some slot → may_be_seated p number found ≡ true
-    → ts ≡ ss ++ record { number = number; slot = slot; table = [] } ∷ [] → AreOfSlots ss → AreOfSlots ts
-slots_push_new p ss ts number slot found tables some may more slots =
-    let one : (is_new_number p.connections number && not (is_connected p.server slot)) ≡ true = rw some at may in
-    let parts = and_parts (is_new_number p.connections number) (not (is_connected p.server slot)) one in
-    let absent : table_of p.server slot ≡ None = none_from (table_of p.server slot) (not-true _ parts.1) in
-    subst AreOfSlots (sym more) (slots_push ss (record { number = number; slot = slot; table = [] }) slots (rw tables at absent))
+named_more : (begun : List Begun) (b : Begun) (ss : List Session) → AreNamed begun ss → AreNamed (begun ++ b ∷ []) ss
+named_more begun b [] named = tt
+named_more begun b (s ∷ ss) named = (any_more (λ (x : Begun). eqb s.slot x.slot) begun b named.0, named_more begun b ss named.1) where
+  any_more : (test : Begun → Bool) (bs : List Begun) (last : Begun) → list_any test bs ≡ true → list_any test (bs ++ last ∷ []) ≡ true
+  any_more test [] last h = absurd (both_ways false refl h)
+  any_more test (x ∷ bs) last h =
+      elim (or_cases (test x) (list_any test bs) h) [
+        | inl here ↦ or_left (test x) _ here
+        | inr there ↦ or_right (test x) _ (any_more test bs last there)
+      ]
 
--- ---- a prefix is announced
+any_last : (test : Begun → Bool) (bs : List Begun) (last : Begun) → test last ≡ true → list_any test (bs ++ last ∷ []) ≡ true
+any_last test [] last h = or_left (test last) _ h
+any_last test (x ∷ bs) last h = or_right (test x) _ (any_last test bs last h)
 
-pub changed_server : (domain : Domain) (s t : Server) (slot : ℕ) (p : IpPrefix) (octets : List ℕ) → is_connected s slot ≡ true
-    → true ≡ not (same_octets (announced_by s.announcements slot p) (Some octets)) → t.tables ≡ s.tables → t.announcements ≡ put_at same_place (slot, p) octets s.announcements
-    → t.touched ≡ include p s.touched → t.edges ≡ s.edges → t ≡ after domain (Change slot p (Some octets)) s
+pub named_push : (begun : List Begun) (ss : List Session) (number slot : ℕ) → AreNamed begun ss
+    → AreNamed (begun ++ record { number = number; slot = slot } ∷ []) (ss ++ record { number = number; slot = slot; table = [] } ∷ [])
+named_push begun ss number slot named =
+    all_push (λ (s : Session). list_any (λ (b : Begun). eqb s.slot b.slot) (begun ++ record { number = number; slot = slot } ∷ []) ≡ true) ss (record { number = number; slot = slot; table = [] })
+    (named_more begun (record { number = number; slot = slot }) ss named)
+    (any_last (λ (b : Begun). eqb slot b.slot) begun (record { number = number; slot = slot }) (eq-eqb slot slot refl))
+
+-- ---- what a slot announces at a prefix changes
+
+without_nothing : {K V : Type 0} (same : K → K → Bool) (key : K) (m : List (K × V)) → get_at same key m ≡ None → without (same key) m ≡ m
+without_nothing same key [] none = refl
+without_nothing same key (e ∷ m) none =
+    elim (cases_Bool (same key e.0)) [
+      | inl t ↦ let no : Some e.1 ≡ None = rw t at none in absurd cc
+      | inr f ↦ rw f (ap (λ l. e ∷ l) (without_nothing same key m (rw f at none)))
+    ]
+
+set_same : (key : Place) (octets : Option (List ℕ)) (m : Announcements) → get_at same_place key m ≡ octets → set_at same_place key octets m ≡ m
+set_same key None m is = without_nothing same_place key m is
+set_same key (Some value) m is = put_same same_place place_test key value m is
+
+pub changed_server : (domain : Domain) (s t : Server) (slot : ℕ) (p : IpPrefix) (octets : Option (List ℕ)) → is_connected s slot ≡ true
+    → true ≡ not (same_octets (announced_by s.announcements slot p) octets) → t.tables ≡ s.tables → t.announcements ≡ set_at same_place (slot, p) octets s.announcements
+    → t.touched ≡ include p s.touched → t.edges ≡ s.edges → t ≡ after domain (Change slot p octets) s
 unfolding after
 changed_server domain s t slot p octets connected other tables announcements touched edges =
-    rw (connected, ← other) (server_is t (record s { announcements = put_at same_place (slot, p) octets s.announcements; touched = include p s.touched }) tables announcements touched edges)
+    rw (connected, ← other) (server_is t (record s { announcements = set_at same_place (slot, p) octets s.announcements; touched = include p s.touched }) tables announcements touched edges)
 
-pub kept_server : (domain : Domain) (s t : Server) (slot : ℕ) (p : IpPrefix) (octets : List ℕ) → is_connected s slot ≡ true
-    → false ≡ not (same_octets (announced_by s.announcements slot p) (Some octets)) → t.tables ≡ s.tables → t.announcements ≡ put_at same_place (slot, p) octets s.announcements
-    → t.touched ≡ s.touched → t.edges ≡ s.edges → t ≡ after domain (Change slot p (Some octets)) s
+pub kept_server : (domain : Domain) (s t : Server) (slot : ℕ) (p : IpPrefix) (octets : Option (List ℕ)) → is_connected s slot ≡ true
+    → false ≡ not (same_octets (announced_by s.announcements slot p) octets) → t.tables ≡ s.tables → t.announcements ≡ set_at same_place (slot, p) octets s.announcements
+    → t.touched ≡ s.touched → t.edges ≡ s.edges → t ≡ after domain (Change slot p octets) s
 unfolding after
 kept_server domain s t slot p octets connected same tables announcements touched edges =
-    let known : announced_by s.announcements slot p ≡ Some octets = same_octets-is (announced_by s.announcements slot p) (Some octets) (not-false _ (sym same)) in
-    rw (connected, ← same) (server_is t s tables (announcements ∙ put_same same_place place_test (slot, p) octets s.announcements known) touched edges)
+    let known : announced_by s.announcements slot p ≡ octets = same_octets-is (announced_by s.announcements slot p) octets (not-false _ (sym same)) in
+    rw (connected, ← same) (server_is t s tables (announcements ∙ set_same (slot, p) octets s.announcements known) touched edges)
 
--- ---- an UPDATE is heard
+pub changed_first : (p q : Platform) (slot : ℕ) (octets : Option (List ℕ)) (x : IpPrefix) (ps : List IpPrefix) → q ≡ record p { server = after (domain_of p.roster) (Change slot x octets) p.server }
+    → changed_of q slot octets ps ≡ changed_of p slot octets (x ∷ ps)
+unfolding after_all
+changed_first p q slot octets x ps is = rw is refl
 
--- the platform once a slot has announced these prefixes
-pub heard_of : Platform → ℕ → List ℕ → List IpPrefix → Platform
-heard_of p slot octets ps = record p { server = after_all (domain_of p.roster) (map (λ q. Change slot q (Some octets)) ps) p.server }
+pub changed_none : (p : Platform) (slot : ℕ) (octets : Option (List ℕ)) → changed_of p slot octets [] ≡ p
+unfolding after_all
+changed_none p slot octets = refl
 
-pub heard_first : (p q : Platform) (slot : ℕ) (octets : List ℕ) (x : IpPrefix) (ps : List IpPrefix) → q ≡ record p { server = after (domain_of p.roster) (Change slot x (Some octets)) p.server }
-    → heard_of q slot octets ps ≡ heard_of p slot octets (x ∷ ps)
-unfolding heard_of after_all
-heard_first p q slot octets x ps is = rw is refl
+-- ---- a faultless UPDATE is heard
 
-pub heard_last : (p : Platform) (slot : ℕ) (octets : List ℕ) → heard_of p slot octets [] ≡ p
-unfolding heard_of after_all
-heard_last p slot octets = refl
+pub heard_all : (p : Platform) (message withdrawn attrs nlri octets : List ℕ) (slot : ℕ) (found : Option ℕ) → found ≡ Some slot → is_whole_update message ≡ true
+    → update_fault w16 (drop 19 message) ≡ None → sections_of (drop 19 message) ≡ Some (record { withdrawn = withdrawn; attributes = attrs; nlri = nlri })
+    → octets ≡ canonical_octets (attributes_in attrs)
+    → changed_of (changed_of p slot None (not_announced nlri (prefixes_in withdrawn))) slot (Some octets) (prefixes_in nlri) ≡ heard p message found
+unfolding changes_of
+heard_all p message withdrawn attrs nlri octets slot found some whole faultless are octets_are =
+    rw (some, whole, faultless, are, octets_are)
+    (ap (λ (s : Server). let r : Platform = record p { server = s } in r)
+    (sym (after_all-append (domain_of p.roster) (map (λ q. Change slot q None) (not_announced nlri (prefixes_in withdrawn))) (map (λ q. Change slot q (Some (canonical_octets (attributes_in attrs)))) (prefixes_in nlri)) p.server)))
 
-pub heard_all : (p : Platform) (message octets : List ℕ) (ps : List IpPrefix) (slot : ℕ) (found : Option ℕ) → found ≡ Some slot → is_plain_update message ≡ true
-    → octets ≡ canonical_octets (changes_of (drop 19 message)).attributes → ps ≡ (changes_of (drop 19 message)).announced → (changes_of (drop 19 message)).withdrawn ≡ []
-    → heard_of p slot octets ps ≡ heard p message found
-unfolding heard_of is_plain_update
-heard_all p message octets ps slot found some plain octets_are ps_are none =
-    let faultless : is_faultless_update message ≡ true = (and_parts _ _ plain).0 in
-    rw (some, faultless, none, octets_are, ps_are) refl
+-- ---- a session ends
 
-pub plain_canonical : (message octets : List ℕ) → All (λ o. o < 256) message → is_plain_update message ≡ true → octets ≡ canonical_octets (changes_of (drop 19 message)).attributes
-    → canonical_octets (attributes_in octets) ≡ octets
-unfolding is_plain_update
-plain_canonical message octets small plain is =
-    rw is (reads_updates.attributes message small (and_parts _ _ plain).0)
+gone_seats : (slot : ℕ) (ss : List Session) → map seat_of (without_slot slot ss) ≡ without (same_number slot) (map seat_of ss)
+gone_seats slot [] = refl
+gone_seats slot (s ∷ ss) =
+    elim (cases_Bool (eqb s.slot slot)) [
+      | inl e ↦ rw (e, number-other-true slot s.slot e) (gone_seats slot ss)
+      | inr e ↦ rw (e, number-other s.slot slot e) (ap (λ (l : List (ℕ × Table)). seat_of s ∷ l) (gone_seats slot ss))
+    ] where
+      number-other-true : (a b : ℕ) → eqb b a ≡ true → eqb a b ≡ true
+      number-other-true a b h = eq-eqb a b (sym (eqb-true b a h))
+
+gone_connections : (slot : ℕ) (ss : List Session) → map connection_of (without_slot slot ss) ≡ filter (λ (c : meaning.Connection). not (eqb (slot_in c.phase) slot)) (map connection_of ss)
+gone_connections slot [] = refl
+gone_connections slot (s ∷ ss) =
+    elim (cases_Bool (eqb s.slot slot)) [
+      | inl e ↦ rw e (gone_connections slot ss)
+      | inr e ↦ rw e (ap (λ (l : List meaning.Connection). connection_of s ∷ l) (gone_connections slot ss))
+    ]
+
+gone_announcements : (slot : ℕ) (entries : List Announcement) → announcements_in (filter (λ (a : Announcement). not (eqb a.slot slot)) entries)
+    ≡ filter (λ (entry : Place × List ℕ). not (eqb entry.0.0 slot)) (announcements_in entries)
+gone_announcements slot [] = refl
+gone_announcements slot (a ∷ entries) =
+    elim (cases_Bool (eqb a.slot slot)) [
+      | inl e ↦ rw e (gone_announcements slot entries)
+      | inr e ↦ rw e (ap (λ (l : Announcements). entry_in a ∷ l) (gone_announcements slot entries))
+    ]
+
+pub closed_one : (p q : Platform) (ss ts : List Session) (entries : List Announcement) (slot : ℕ) → p.connections ≡ map connection_of ss → p.server.tables ≡ map seat_of ss → p.server.announcements ≡ announcements_in entries
+    → ts ≡ without_slot slot ss → q.roster ≡ p.roster → q.connections ≡ map connection_of ts → q.begun ≡ p.begun → q.server.tables ≡ map seat_of ts
+    → q.server.announcements ≡ announcements_in (filter (λ (a : Announcement). not (eqb a.slot slot)) entries)
+    → q.server.touched ≡ include_all (announced_prefixes (of_slot slot p.server.announcements)) p.server.touched → q.server.edges ≡ p.server.edges → q.updates ≡ p.updates
+    → q ≡ closed p slot
+unfolding after_all after
+closed_one p q ss ts entries slot connections tables announced fewer roster connections' begun tables' announced' touched edges updates =
+    platform_is q (closed p slot) roster
+    (connections' ∙ ap (map connection_of) fewer ∙ gone_connections slot ss ∙ ap (filter (λ (c : meaning.Connection). not (eqb (slot_in c.phase) slot))) (sym connections))
+    begun
+    (server_is q.server (closed p slot).server
+    (tables' ∙ ap (map seat_of) fewer ∙ gone_seats slot ss ∙ ap (without (same_number slot)) (sym tables))
+    (announced' ∙ gone_announcements slot entries ∙ ap (filter (λ (entry : Place × List ℕ). not (eqb entry.0.0 slot))) (sym announced))
+    touched edges)
+    updates
+
+all_filter : {X : Type 0} (P : X → Type 0) (test : X → Bool) (xs : List X) → AllByRecursion P xs → AllByRecursion P (filter test xs)
+all_filter P test [] all = tt
+all_filter P test (x ∷ xs) all =
+    elim (cases_Bool (test x)) [
+      | inl e ↦ rw e (all.0, all_filter P test xs all.1)
+      | inr e ↦ rw e (all_filter P test xs all.1)
+    ]
+
+pub slots_left : (slot : ℕ) (ss : List Session) → AreOfSlots ss → AreOfSlots (without_slot slot ss)
+slots_left slot [] slots = tt
+slots_left slot (s ∷ ss) slots =
+    elim (cases_Bool (eqb s.slot slot)) [
+      | inl e ↦ rw e (slots_left slot ss slots.1)
+      | inr e ↦ rw e (all_filter (λ (t : Session). (t.slot ≡ s.slot) → ⊥) (λ (t : Session). not (eqb t.slot slot)) ss slots.0, slots_left slot ss slots.1)
+    ]
+
+pub named_left : (begun : List Begun) (slot : ℕ) (ss : List Session) → AreNamed begun ss → AreNamed begun (without_slot slot ss)
+named_left begun slot ss named = all_filter (λ (s : Session). list_any (λ (b : Begun). eqb s.slot b.slot) begun ≡ true) (λ (s : Session). not (eqb s.slot slot)) ss named
+
+pub kept_left : (as_number slot : ℕ) (entries : List Announcement) → AllByRecursion (IsKept as_number) entries → AllByRecursion (IsKept as_number) (filter (λ (a : Announcement). not (eqb a.slot slot)) entries)
+kept_left as_number slot entries kept = all_filter (IsKept as_number) (λ (a : Announcement). not (eqb a.slot slot)) entries kept
 
 -- ---- the touched prefixes are worked
 
@@ -232,6 +333,10 @@ module _ (offers : ℕ → IpPrefix → Option (List ℕ)) where
   slots-told : (P : ℕ → Type 0) (ps : List IpPrefix) (ss : List Session) → AllByRecursion (λ (t : Session). P t.slot) ss → AllByRecursion (λ (t : Session). P t.slot) (map (session_told offers ps) ss)
   slots-told P ps [] all = tt
   slots-told P ps (s ∷ ss) all = (all.0, slots-told P ps ss all.1)
+
+  pub named_told : (begun : List Begun) (ps : List IpPrefix) (ss : List Session) → AreNamed begun ss → AreNamed begun (map (session_told offers ps) ss)
+  named_told begun ps [] named = tt
+  named_told begun ps (s ∷ ss) named = (named.0, named_told begun ps ss named.1)
 
   pub slots_told : (ps : List IpPrefix) (ss : List Session) → AreOfSlots ss → AreOfSlots (map (session_told offers ps) ss)
   slots_told ps [] slots = tt
@@ -368,9 +473,9 @@ module _ (p : Platform) (ss : List Session) (connections : p.connections ≡ map
 
   pub drain_is : (q : Platform) → q.roster ≡ p.roster → q.connections ≡ map connection_of (map (session_told offers p.server.touched) ss)
       → q.server.tables ≡ map seat_of (map (session_told offers p.server.touched) ss) → q.server.announcements ≡ p.server.announcements → q.server.touched ≡ [] → q.server.edges ≡ p.server.edges
-      → q.updates ≡ min (p.updates + length (all_told offers p.server.touched ss)) (2 ^ 64 - 1) → q ≡ drain p
-  drain_is q roster connections' tables' announcements touched edges updates =
-      platform_is q (drain p) roster (connections' ∙ connections-told offers p.server.touched ss ∙ sym connections)
+      → q.updates ≡ min (p.updates + length (all_told offers p.server.touched ss)) (2 ^ 64 - 1) → q.begun ≡ p.begun → q ≡ drain p
+  drain_is q roster connections' tables' announcements touched edges updates begun =
+      platform_is q (drain p) roster (connections' ∙ connections-told offers p.server.touched ss ∙ sym connections) begun
       (server_is q.server (record { tables = map seat_of (map (session_told offers p.server.touched) ss); announcements = p.server.announcements; touched = []; edges = p.server.edges }) tables' announcements touched edges ∙ sym drained_is)
       (updates ∙ ap (λ (l : List OutRecord). min (p.updates + length l) (2 ^ 64 - 1)) (sym messages_are))
 
@@ -582,10 +687,3 @@ drain_output p q out_now told is told_is out_is =
     ∙ ap (λ (r : Platform). flat_map out_octets (drain_messages p) ++ out_octets (summary r.server r.updates)) is
     ∙ ap (λ (l : List ℕ). flat_map out_octets (drain_messages p) ++ l) (sym (append-nil (out_octets (summary (drained_server p) (drain p).updates))))
     ∙ sym (flat_map-append out_octets (drain_messages p) (summary (drained_server p) (drain p).updates ∷ []))
-
--- ---- octets
-
-pub octets_small : (xs : List ℕ) → ((i : ℕ) → Fits w8 (get_or xs i 0)) → All (λ o. o < 256) xs
-octets_small [] fits k d within = absurd (omega arith)
-octets_small (x ∷ xs) fits zero d within = omega (arith, fits 0)
-octets_small (x ∷ xs) fits (suc k) d within = octets_small xs (λ i. fits (suc i)) k d (omega arith)

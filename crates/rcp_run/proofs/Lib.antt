@@ -1,6 +1,7 @@
 pub mod Fits
 pub mod Words
 pub mod Numbers
+pub mod Headers
 pub mod Lines
 pub mod ListMaps
 pub mod EntryLemmas

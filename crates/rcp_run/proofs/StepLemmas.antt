@@ -1,11 +1,10 @@
 -- What the record of each kind means, and what is known of it where it is plausible.
 use Rattle.std.proofs.Common.{◌≡◌, ◌<◌, ◌&&◌, true, false, eqb, ltb, [], ◌∷◌, ◌++◌, length, refl}
-use Rattle.std.specs.Prelude.{is_some}
 use Rattle.std.specs.Int.{w32, from_be_bytes}
 use Rattle.std.proofs.lemmas.Bool.{and_parts, eqb-true, ltb-true}
 use Rattle.rcp_model.specs.Feed.{FeedRecord, ROSTER, READY, OCTETS, DRAIN, FINISH}
-use Rattle.rcp_model.specs.Meaning.{Platform, slot_from, slot_on, seated, heard, drain, drained_server, drain_messages, summary, step, output}
-use Rattle.rcp_model.specs.Plain.{is_plausible, may_be_seated, is_plain_update, has_form}
+use Rattle.rcp_model.specs.Meaning.{Platform, slot_from, slot_on, seated, heard, heard_output, drain, drained_server, drain_messages, summary, step, output}
+use Rattle.rcp_model.specs.Plain.{is_plausible, may_be_seated, may_be_heard, has_form}
 
 module _ (p : Platform) (item : FeedRecord) where
   pub step-ready : item.kind ≡ READY → step p item ≡ seated p item.source (slot_from 0 p.roster.members (from_be_bytes w32 item.body))
@@ -24,7 +23,7 @@ module _ (p : Platform) (item : FeedRecord) where
   unfolding output
   output-ready is = rw is refl
 
-  pub output-octets : item.kind ≡ OCTETS → output p item ≡ []
+  pub output-octets : item.kind ≡ OCTETS → output p item ≡ heard_output item.source item.body (slot_on p.connections item.source)
   unfolding output
   output-octets is = rw is refl
 
@@ -36,7 +35,7 @@ module _ (p : Platform) (item : FeedRecord) where
   unfolding has_form
   form-ready ok is = rw (ok, is) refl
 
-  pub form-octets : is_plausible item ≡ true → item.kind ≡ OCTETS → has_form p item ≡ (is_some (slot_on p.connections item.source) && is_plain_update item.body)
+  pub form-octets : is_plausible item ≡ true → item.kind ≡ OCTETS → has_form p item ≡ may_be_heard p item.source item.body (slot_on p.connections item.source)
   unfolding has_form
   form-octets ok is = rw (ok, is) refl
 

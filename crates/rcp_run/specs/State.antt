@@ -1,18 +1,18 @@
 -- What the engine's lists mean: the platform of the definitions, and what is always so of them.
-use Rattle.std.specs.Prelude.{◌≡◌, ℕ, ◌+◌, ◌*◌, ◌^◌, ◌<◌, ◌≤◌, Bool, true, false, nat_lt, List, [], ◌∷◌, ◌++◌, length, map, Option, Some, None, if◌then◌else◌}
-use Rattle.std.specs.List.{AllByRecursion}
+use Rattle.std.specs.Prelude.{◌≡◌, ℕ, ◌+◌, ◌*◌, ◌^◌, ◌<◌, ◌≤◌, Bool, true, false, nat_lt, not, ◌==◌, List, [], ◌∷◌, ◌++◌, length, map, filter, Option, Some, None, if◌then◌else◌}
+use Rattle.std.specs.List.{list_any, AllByRecursion}
 use Rattle.std.specs.Int.{w16}
 use Rattle.rcp_base.specs.IpPrefix.{IpPrefix}
 use Rattle.rcp_base.specs.declared.names.Member.{Member}
-use Rattle.rcp_model.specs.Maps.{get_at, set_at, same_prefix, is_before}
+use Rattle.rcp_model.specs.Maps.{get_at, set_at, same_prefix, is_before, is_among}
 use Rattle.rcp_model.specs.Attributes.{canonical_octets, attributes_in}
 use Rattle.rcp_model.specs.Routes.{RouteFields, route_in}
 use Rattle.rcp_model.specs.LinkState.{same_number}
 use Rattle.rcp_model.specs.Edges.{rising_edges}
 use Rattle.rcp_model.specs.declared.event.Edge.{Edge}
 use Rattle.rcp_model.specs.Costs.{Walk}
-use Rattle.rcp_model.specs.Control.{Place, Announcements, Server, same_place, same_octets, router_at, offer}
-use Rattle.rcp_model.specs.Updates.{Table}
+use Rattle.rcp_model.specs.Control.{Place, Announcements, Server, Change, same_place, same_octets, router_at, offer, after_all}
+use Rattle.rcp_model.specs.Updates.{Table, prefixes_in}
 use Rattle.rcp_model.specs.Meaning.{Platform, Established, domain_of, OutRecord, cell_update, messages_to}
 use Rattle.rcp_model.specs.Meaning as meaning
 use Rattle.rcp_run.specs.declared.roster.Roster.{Roster}
@@ -20,6 +20,7 @@ use Rattle.rcp_run.specs.Rosters.{roster_in}
 use Rattle.rcp_run.specs.declared.announcements.Announcement.{Announcement}
 use Rattle.rcp_run.specs.declared.table.Cell.{Cell}
 use Rattle.rcp_run.specs.declared.costs.Reached.{Reached}
+use Rattle.rcp_run.specs.declared.engine.Begun.{Begun}
 use Rattle.rcp_run.specs.declared.engine.Connection.{Connection}
 use Rattle.rcp_run.specs.declared.engine.Engine.{Engine}
 
@@ -55,6 +56,10 @@ connection_of s = record { number = s.number; phase = Established s.slot }
 abbrev pub seat_of : Session → ℕ × Table
 seat_of s = (s.slot, s.table)
 
+-- the number and the slot of a connection that was begun
+abbrev pub begun_in : Begun → ℕ × ℕ
+begun_in b = (b.number, b.slot)
+
 abbrev pub server_in : Engine → Server
 server_in e = record {
   tables = map seat_of (sessions_in e.connections.items);
@@ -67,6 +72,7 @@ abbrev pub platform_in : Engine → Platform
 platform_in e = record {
   roster = roster_in e.roster;
   connections = map connection_of (sessions_in e.connections.items);
+  begun = map begun_in e.begun.items;
   server = server_in e;
   updates = e.written;
 }
@@ -90,13 +96,30 @@ abbrev pub AreOfSlots : List Session → Type 0
 AreOfSlots [] = Unit {0}
 AreOfSlots (s ∷ sessions) = AllByRecursion (λ (t : Session). (t.slot ≡ s.slot) → ⊥) sessions × AreOfSlots sessions
 
+-- a connection was begun for the slot of each session
+abbrev pub AreNamed : List Begun → List Session → Type 0
+AreNamed begun sessions = AllByRecursion (λ (s : Session). list_any (λ (b : Begun). s.slot == b.slot) begun ≡ true) sessions
+
 pub record IsSound (e : Engine) : Type 0 where
   pub routes : AllByRecursion (IsKept e.roster.as_number) e.announcements.items
   pub rising : IsRising e.touched.items
   pub slots : AreOfSlots (sessions_in e.connections.items)
+  pub named : AreNamed e.begun.items (sessions_in e.connections.items)
   pub counted : e.written < 2 ^ 64
 
 -- ---- parts of the answer
+
+-- the platform once a slot has changed its announcements of these prefixes to these octets, or to nothing
+abbrev pub changed_of : Platform → ℕ → Option (List ℕ) → List IpPrefix → Platform
+changed_of p slot octets ps = record p { server = after_all (domain_of p.roster) (map (λ q. Change slot q octets) ps) p.server }
+
+-- those that aren't announced in the section
+abbrev pub not_announced : List ℕ → List IpPrefix → List IpPrefix
+not_announced nlri ps = filter (λ p. not (is_among (prefixes_in nlri) p)) ps
+
+-- the sessions of other slots
+abbrev pub without_slot : ℕ → List Session → List Session
+without_slot slot sessions = filter (λ s. not (s.slot == slot)) sessions
 
 -- the entry of a router for a prefix
 abbrev pub entry_at : List Announcement → ℕ → IpPrefix → Option Announcement

@@ -1,16 +1,13 @@
 // What the routers announce: a map from router and prefix to route, as a list.
-ghost use Rattle.std.specs.Prelude.{◌≡◌, ℕ, not, option_copied, OnOk, IfOk, Some, bytes_eq};
+ghost use Rattle.std.specs.Prelude.{◌≡◌, ◌==◌, ℕ, not, filter, option_copied, OnOk, IfOk, Some, None, bytes_eq};
 ghost use Rattle.std.specs.List.{position, AllByRecursion};
-ghost use Rattle.rcp_model.specs.Maps.{put_at};
+ghost use Rattle.rcp_model.specs.Maps.{put_at, without};
 ghost use Rattle.rcp_model.specs.Control.{same_place, same_octets, announced_by};
 ghost use Rattle.rcp_model.specs.Routes.{is_usable};
 ghost use Rattle.rcp_run.specs.State.{announcements_in, entry_in, entry_at, IsKept, IsKeptRoute};
 
 use rcp_base::{NoMemory, Prefix, Slot};
 use rcp_model::Route;
-
-/// The most octets that the attributes of a route may have: with one prefix, a message has room for so many.
-pub const MOST_ATTRS: usize = 4068;
 
 /// One router's route to one prefix.
 #[derive(Debug, Drop)]
@@ -72,6 +69,28 @@ pub fn announce(
             Ok(true)
         }
     }
+}
+
+/// Takes the router's announcement of the prefix away. Tells whether it was there.
+pub fn withdraw(announcements: &mut Vec<Announcement>, slot: Slot, prefix: Prefix) -> bool
+    ensures entries { announcements_in announcements.new.items
+        ≡ without (same_place (slot, prefix)) (announcements_in announcements.old.items) }
+    ensures changed { result ≡ not (same_octets (announced_by (announcements_in announcements.old.items) slot prefix) None) }
+    ensures kept { (as_number : ℕ) → AllByRecursion (IsKept as_number) announcements.old.items
+        → AllByRecursion (IsKept as_number) announcements.new.items }
+{
+    let changed = place_of(announcements, slot, prefix).is_some();
+    while let Some(place) = place_of(announcements, slot, prefix) {
+        announcements.remove(place);
+    }
+    changed
+}
+
+/// Takes all that the router announces away.
+pub fn drop_all(announcements: &mut Vec<Announcement>, slot: Slot)
+    ensures { announcements.new.items ≡ filter (λ a. not (a.slot == slot)) announcements.old.items }
+{
+    announcements.retain(|entry| entry.slot != slot);
 }
 
 fn have_other_attrs(route: &Route, other: &Route) -> bool

@@ -4,34 +4,33 @@
 // | Record | What becomes pending |
 // |---|---|
 // | a router connects | each prefix that some router announces |
-// | an UPDATE | each of its prefixes whose announcement changes |
+// | an UPDATE without a fault | each of its prefixes whose announcement changes |
+// | an UPDATE with a fault, which ends the session | each prefix that the router announced |
 // | a drain | nothing: each pending prefix is decided for each connected router |
 ghost use Rattle.std.specs.Prelude.{◌≡◌, ℕ, ◌+◌, ◌-◌, ◌^◌, ◌<◌, ◌≤◌, ◌∷◌, [], ◌++◌, ◌&&◌, ◌==◌, true, false, not, length, map, min, is_some, nat_lt, option_map, IfOk, OnOk, IfSome, Some, Err};
 ghost use Rattle.std.specs.List.{list_all, list_any, flat_map, AllByRecursion};
 ghost use Rattle.std.specs.Int.{w32, from_be_bytes};
 ghost use Rattle.rcp_model.specs.Maps.{get_at, set_at, same_prefix};
-ghost use Rattle.rcp_model.specs.Attributes.{canonical_octets, attributes_in};
 ghost use Rattle.rcp_model.specs.Edges.{rising_edges};
-ghost use Rattle.rcp_model.specs.Control.{Change, after, is_connected, slot_cost, same_octets};
-ghost use Rattle.rcp_model.specs.Meaning.{fresh, domain_of, slot_from, slot_on, seated, heard, drain, drained_server, drain_messages, summary, messages_to, out_octets, step, output};
-ghost use Rattle.rcp_model.specs.Plain.{is_plausible, may_be_seated, is_plain_update, has_form};
-ghost use Rattle.bgp_msg.specs.Narrow.{Tells};
+ghost use Rattle.rcp_model.specs.Control.{slot_cost, same_octets};
+ghost use Rattle.rcp_model.specs.Meaning.{fresh, slot_from, seated, drain, drained_server, drain_messages, summary, messages_to, out_octets, step, output};
+ghost use Rattle.rcp_model.specs.Plain.{is_plausible, may_be_seated, has_form};
 ghost use Rattle.rcp_run.specs.declared.refusal.Refusal.TheVariants.{NotOfForm};
 ghost use Rattle.rcp_run.specs.Rosters.{roster_in};
 ghost use Rattle.rcp_run.specs.State.{table_in, session_in, sessions_in, connection_of, server_in, platform_in, IsSound, IsKept, costs_in, offers_to, cell_told, session_told, messages_told, all_told};
 ghost use Rattle.rcp_run.specs.Records.{item_of};
 
-use crate::announcements::{Announcement, announce};
+mod hearing;
+
+use crate::announcements::Announcement;
 use crate::costs::{Reached, costs};
 use crate::decision::offer;
 use crate::feed::{Kind, Record};
 use crate::output::{Summary, add_announcement, add_summary, add_withdrawal};
-use crate::prefixes::{add, add_announced, announced};
+use crate::prefixes::{add_announced, announced};
 use crate::refusal::Refusal;
 use crate::roster::{Roster, slot_of};
-use crate::routes::route_of;
 use crate::table::{Cell, put, unset};
-use bgp_msg::{NarrowUpdate, next_prefix, read_narrow};
 use rcp_base::{NoMemory, Prefix, RouterId, Slot};
 use std::alloc::Global;
 
@@ -44,12 +43,21 @@ struct Connection {
     table: Vec<Cell>,
 }
 
+/// A connection that was begun for the router of a slot, whether it is still open or not.
+#[derive(Clone, Copy, Debug)]
+struct Begun {
+    number: u32,
+    slot: Slot,
+}
+
 /// The state between two records.
 #[derive(Debug, Drop)]
 pub struct Engine {
     roster: Roster,
-    /// By rising number.
+    /// Those that are open, by rising number.
     connections: Vec<Connection>,
+    /// Each that was begun so far, at most one for each router.
+    begun: Vec<Begun>,
     announcements: Vec<Announcement>,
     /// The pending prefixes, rising.
     touched: Vec<Prefix>,
@@ -66,6 +74,7 @@ impl Engine {
         Engine {
             roster,
             connections: Vec::new(alloc),
+            begun: Vec::new(alloc),
             announcements: Vec::new(alloc),
             touched: Vec::new(alloc),
             written: 0,
@@ -88,29 +97,22 @@ impl Engine {
         ensures refused { result ≡ Err NotOfForm → has_form (platform_in self.old) (item_of input.now) ≡ false }
     {
         match input.kind {
-            Kind::Ready => {
-                if let Err(why) = self.connect(alloc, input.source, &input.body) {
-                    return Err(why);
-                }
-            }
-            Kind::Octets => {
-                if let Err(why) = self.receive(alloc, input.source, &input.body) {
-                    return Err(why);
-                }
-            }
-            Kind::Drain => return Ok(self.drain(alloc)?),
-            Kind::Roster | Kind::Finish => return Err(Refusal::NotOfForm),
+            Kind::Ready => self.connect(alloc, input.source, &input.body),
+            Kind::Octets => self.receive(alloc, input.source, &input.body),
+            Kind::Drain => Ok(self.drain(alloc)?),
+            Kind::Roster | Kind::Finish => Err(Refusal::NotOfForm),
         }
-        Ok(Vec::new(alloc))
     }
 
-    /// The session of a router of the roster that has none begins, with a number above each earlier one.
-    fn connect(&mut self, alloc: Global, number: u32, body: &[u8]) -> Result<(), Refusal>
+    /// The session of a router of the roster begins, for which none was begun so far, with a number above each earlier
+    /// one. Nothing is put out.
+    fn connect(&mut self, alloc: Global, number: u32, body: &[u8]) -> Result<Vec<u8>, Refusal>
         requires sound { IsSound self.old }
         requires numbered { 0 < number }
         requires router { length body.now ≡ 4 }
         ensures platform { OnOk result (platform_in self.new
             ≡ seated (platform_in self.old) number (slot_from 0 self.old.roster.members.items (from_be_bytes w32 body.now))) }
+        ensures output { IfOk result (λ out. out.items ≡ []) }
         ensures sound { OnOk result (IsSound self.new) }
         ensures form { OnOk result (may_be_seated (platform_in self.old) number
             (slot_from 0 self.old.roster.members.items (from_be_bytes w32 body.now)) ≡ true) }
@@ -120,66 +122,17 @@ impl Engine {
         let Some(slot) = slot_named(&self.roster, body) else {
             return Err(Refusal::NotOfForm);
         };
-        if !is_new(&self.connections, number, slot) {
+        if !is_new(&self.begun, number, slot) {
             return Err(Refusal::NotOfForm);
         }
+        self.begun.push(Begun { number, slot })?;
         self.connections.push(Connection {
             number,
             slot,
             table: Vec::new(alloc),
         })?;
         add_announced(&mut self.touched, &self.announcements)?;
-        Ok(())
-    }
-
-    /// An UPDATE of the narrow form comes on a connection.
-    fn receive(&mut self, alloc: Global, number: u32, body: &[u8]) -> Result<(), Refusal>
-        requires { IsSound self.old }
-        ensures platform { OnOk result (platform_in self.new
-            ≡ heard (platform_in self.old) body.now (slot_on (platform_in self.old).connections number)) }
-        ensures sound { OnOk result (IsSound self.new) }
-        ensures form { OnOk result ((is_some (slot_on (platform_in self.old).connections number) && is_plain_update body.now) ≡ true) }
-        ensures refused { result ≡ Err NotOfForm
-            → (is_some (slot_on (platform_in self.old).connections number) && is_plain_update body.now) ≡ false }
-    {
-        let Some(slot) = slot_connected(&self.connections, number) else {
-            return Err(Refusal::NotOfForm);
-        };
-        let Some(update) = read_narrow(body) else {
-            return Err(Refusal::NotOfForm);
-        };
-        let mut rest = update.nlri;
-        while let Some(found) = next_prefix(rest) {
-            self.hear(alloc, slot, found.0, &update)?;
-            rest = found.1;
-        }
-        Ok(())
-    }
-
-    /// A connected router announces a prefix. It becomes pending if that changes what the router announces.
-    fn hear(
-        &mut self,
-        alloc: Global,
-        slot: Slot,
-        prefix: Prefix,
-        update: &NarrowUpdate<'_>,
-    ) -> Result<(), NoMemory>
-        requires sound { IsSound self.old }
-        requires connected { is_connected (server_in self.old) slot ≡ true }
-        requires canonical { canonical_octets (attributes_in update.now.attrs.now) ≡ update.now.attrs.now }
-        requires tells { Tells update.now.attrs.now update.now.origin update.now.path.now update.now.next_hop update.now.local_pref }
-        requires path { length update.now.path.now ≤ 510 }
-        ensures platform { OnOk result (platform_in self.new ≡ record (platform_in self.old) {
-          server = after (domain_of (roster_in self.old.roster)) (Change slot prefix (Some update.now.attrs.now)) (server_in self.old);
-        }) }
-        ensures sound { OnOk result (IsSound self.new) }
-        ensures connected { OnOk result (is_connected (server_in self.new) slot ≡ true) }
-    {
-        let route = route_of(alloc, update, self.roster.as_number)?;
-        if announce(&mut self.announcements, slot, prefix, route)? {
-            add(&mut self.touched, prefix)?;
-        }
-        Ok(())
+        Ok(Vec::new(alloc))
     }
 
     /// Each pending prefix is decided for each connected router. The output is what each router is told of the
@@ -202,6 +155,7 @@ impl Engine {
         requires { IsSound self.old }
         ensures roster { OnOk result (self.new.roster ≡ self.old.roster) }
         ensures announcements { OnOk result (self.new.announcements ≡ self.old.announcements) }
+        ensures begun { OnOk result (self.new.begun ≡ self.old.begun) }
         ensures sessions { OnOk result (sessions_in self.new.connections.items
             ≡ map (session_told (offers_to self.old.roster self.old.announcements.items) self.old.touched.items) (sessions_in self.old.connections.items)) }
         ensures out { IfOk result (λ out. out.items ≡ flat_map out_octets
@@ -249,38 +203,24 @@ fn slot_named(roster: &Roster, body: &[u8]) -> Option<Slot>
     slot_of(&roster.members, RouterId(u32::from_be_bytes(*octets)))
 }
 
-/// The number is above that of each connection, and none has the slot.
-fn is_new(connections: &[Connection], number: u32, slot: Slot) -> bool
-    ensures { result ≡ (list_all (λ connection. nat_lt connection.number number) connections.now
-        && not (list_any (λ connection. slot == connection.slot) connections.now)) }
+/// The number is above that of each connection so far, and none was begun for the slot.
+fn is_new(begun: &[Begun], number: u32, slot: Slot) -> bool
+    ensures { result ≡ (list_all (λ b. nat_lt b.number number) begun.now
+        && not (list_any (λ b. slot == b.slot) begun.now)) }
 {
-    are_below(connections, number) && !is_seated(connections, slot)
+    are_below(begun, number) && !is_named(begun, slot)
 }
 
-fn are_below(connections: &[Connection], number: u32) -> bool
-    ensures { result ≡ list_all (λ connection. nat_lt connection.number number) connections.now }
+fn are_below(begun: &[Begun], number: u32) -> bool
+    ensures { result ≡ list_all (λ b. nat_lt b.number number) begun.now }
 {
-    connections
-        .iter()
-        .all(|connection| connection.number < number)
+    begun.iter().all(|begun| begun.number < number)
 }
 
-fn is_seated(connections: &[Connection], slot: Slot) -> bool
-    ensures { result ≡ list_any (λ connection. slot == connection.slot) connections.now }
+fn is_named(begun: &[Begun], slot: Slot) -> bool
+    ensures { result ≡ list_any (λ b. slot == b.slot) begun.now }
 {
-    connections.iter().any(|connection| slot == connection.slot)
-}
-
-/// The slot of the connection of this number.
-fn slot_connected(connections: &[Connection], number: u32) -> Option<Slot>
-    ensures { result ≡ slot_on (map connection_of (sessions_in connections.now)) number }
-{
-    for connection in connections {
-        if connection.number == number {
-            return Some(connection.slot);
-        }
-    }
-    None
+    begun.iter().any(|begun| slot == begun.slot)
 }
 
 /// The routers that the router at the slot reaches, with the costs of the least walks.

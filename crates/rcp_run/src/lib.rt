@@ -19,15 +19,16 @@ mod costs;
 mod decision;
 mod engine;
 mod feed;
+mod message;
 mod output;
 mod prefixes;
 mod refusal;
 mod replay;
 mod roster;
 mod roster_text;
-mod routes;
 mod status;
 mod table;
+mod update;
 
 pub use replay::run;
 pub use status::{FeedWhy, Status};

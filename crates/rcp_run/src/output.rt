@@ -1,19 +1,29 @@
 // The records that are written, and their octets: a kind, a source and the body behind its length.
 ghost use Rattle.std.specs.Prelude.{◌≡◌, ◌^◌, ◌<◌, ◌≤◌, ◌++◌, ◌∷◌, length, OnOk, Some, None};
 ghost use Rattle.std.specs.Int.{w32, w64, to_be_bytes};
+ghost use Rattle.std.specs.List.{flat_map};
 ghost use Rattle.rcp_model.specs.Feed.{OCTETS, SUMMARY as SUMMARY_KIND};
-ghost use Rattle.rcp_model.specs.Meaning.{out_octets, cell_update};
+ghost use Rattle.rcp_model.specs.Meaning.{out_octets, cell_update, fault_output, ended};
+ghost use Rattle.rcp_run.specs.Updates.{IsTold, fault_of};
 
-use bgp_msg::{MOST_OCTETS, write_update};
+use crate::update::Found;
+use bgp_msg::{MOST_OCTETS, write_notification, write_update};
 use rcp_base::{NoMemory, Prefix};
 
-// The kinds of the records: a message to a router, and a summary.
+// The kinds of the records: a message to a router, the end of a connection, and a summary.
 const MESSAGE: u8 = b'B';
+
+const CLOSED: u8 = b'X';
 
 const SUMMARY: u8 = b'S';
 
-// The octets of a summary.
+// The octets of the end of a connection, and of a summary.
+const END_LENGTH: u32 = 3;
+
 const SUMMARY_LENGTH: u32 = 24;
+
+// Why a connection was closed: by a fault in what it sent.
+const BY_FAULT: u8 = 1;
 
 /// What a summary says.
 #[derive(Clone, Copy, Debug)]
@@ -50,6 +60,33 @@ pub fn add_withdrawal(out: &mut Vec<u8>, connection: u32, prefix: Prefix) -> Res
     let mut message = [0; MOST_OCTETS];
     let count = write_update(&[prefix], &[], &[], &mut message).unwrap();
     add_message(out, connection, &message[..count])
+}
+
+/// Adds the records of a fault in what a connection sent: its NOTIFICATION (RFC 4271 section 4.5), and the end of the
+/// connection.
+pub fn add_fault(out: &mut Vec<u8>, connection: u32, found: &Found<'_>) -> Result<(), NoMemory>
+    requires { IsTold found.now }
+    ensures { OnOk result (out.new.items ≡ out.old.items ++ flat_map out_octets (fault_output connection (Some (fault_of found.now)))) }
+{
+    let mut message = [0; MOST_OCTETS];
+    let count = write_notification(&found.fault, found.octets, &mut message);
+    add_message(out, connection, &message[..count])?;
+    add_end(out, connection, BY_FAULT, found.fault.code, found.fault.sub)
+}
+
+/// Adds the record of the end of a connection.
+fn add_end(
+    out: &mut Vec<u8>,
+    connection: u32,
+    reason: u8,
+    code: u8,
+    sub: u8,
+) -> Result<(), NoMemory>
+    ensures { OnOk result (out.new.items ≡ out.old.items ++ out_octets (ended connection reason code sub)) }
+{
+    add_header(out, CLOSED, connection, END_LENGTH)?;
+    out.extend_from_slice(&[reason, code, sub])?;
+    Ok(())
 }
 
 /// Adds the record of a summary.

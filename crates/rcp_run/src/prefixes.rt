@@ -2,11 +2,11 @@
 ghost use Rattle.std.specs.Prelude.{◌≡◌, [], not, ◌||◌, OnOk, IfOk};
 ghost use Rattle.std.specs.List.{position};
 ghost use Rattle.rcp_model.specs.Maps.{include, include_all, same_prefix, is_before};
-ghost use Rattle.rcp_model.specs.Control.{announced_prefixes};
+ghost use Rattle.rcp_model.specs.Control.{announced_prefixes, of_slot};
 ghost use Rattle.rcp_run.specs.State.{announcements_in};
 
 use crate::announcements::Announcement;
-use rcp_base::{NoMemory, Prefix};
+use rcp_base::{NoMemory, Prefix, Slot};
 use std::alloc::Global;
 
 /// Adds the prefix at its place, unless it is there.
@@ -51,6 +51,23 @@ pub fn add_announced(
 {
     for entry in announcements {
         add(prefixes, entry.prefix)?;
+    }
+    Ok(())
+}
+
+/// Adds each prefix that the router announces.
+pub fn add_announced_by(
+    prefixes: &mut Vec<Prefix>,
+    announcements: &[Announcement],
+    slot: Slot,
+) -> Result<(), NoMemory>
+    ensures { OnOk result (prefixes.new.items
+        ≡ include_all (announced_prefixes (of_slot slot (announcements_in announcements.now))) prefixes.old.items) }
+{
+    for entry in announcements {
+        if entry.slot == slot {
+            add(prefixes, entry.prefix)?;
+        }
     }
     Ok(())
 }

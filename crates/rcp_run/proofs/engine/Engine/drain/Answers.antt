@@ -4,10 +4,11 @@ use Rattle.rcp_model.specs.Edges.{rising_edges}
 use Rattle.rcp_model.specs.Meaning.{out_octets, drain}
 use Rattle.rcp_run.specs.declared.roster.Roster.{Roster}
 use Rattle.rcp_run.specs.declared.announcements.Announcement.{Announcement}
+use Rattle.rcp_run.specs.declared.engine.Begun.{Begun}
 use Rattle.rcp_run.specs.declared.engine.Engine.{Engine}
 use Rattle.rcp_run.specs.Rosters.{roster_in}
-use Rattle.rcp_run.specs.State.{announcements_in, sessions_in, connection_of, seat_of, platform_in, offers_to, IsKept, IsRising, AreOfSlots}
-use Rattle.rcp_run.proofs.EngineLemmas.{drain_is, messages_are, drain_output, slots_told}
+use Rattle.rcp_run.specs.State.{announcements_in, sessions_in, connection_of, seat_of, begun_in, platform_in, offers_to, IsKept, IsRising, AreOfSlots, AreNamed}
+use Rattle.rcp_run.proofs.EngineLemmas.{drain_is, messages_are, drain_output, slots_told, named_told}
 use Rattle.rcp_run.proofs.engine.Engine.drain.Goals as goal
 
 pub summarize-requires : goal.summarize-requires
@@ -21,6 +22,7 @@ returns-clause-platform c =
     (ap roster_in c.in_ok-out.ensures.roster) (ap (map connection_of) c.in_ok-out.ensures.sessions) (ap (map seat_of) c.in_ok-out.ensures.sessions)
     (ap (λ (v : Vec Announcement Global). announcements_in v.items) c.in_ok-out.ensures.announcements) c.clear.ensures.items
     (ap (λ (r : Roster). rising_edges r.links.items) c.in_ok-out.ensures.roster) c.in_ok-out.ensures.count
+    (ap (λ (v : Vec Begun Global). map begun_in v.items) c.in_ok-out.ensures.begun)
 
 pub returns-clause-output : goal.returns-clause-output
 returns-clause-output c =
@@ -30,7 +32,8 @@ returns-clause-output c =
     drain_is (platform_in e) (sessions_in e.connections.items) refl refl c.requires.slots c.requires.rising (platform_in new)
     (ap roster_in c.in_ok-out.ensures.roster) (ap (map connection_of) c.in_ok-out.ensures.sessions) (ap (map seat_of) c.in_ok-out.ensures.sessions)
     (ap (λ (v : Vec Announcement Global). announcements_in v.items) c.in_ok-out.ensures.announcements) c.clear.ensures.items
-    (ap (λ (r : Roster). rising_edges r.links.items) c.in_ok-out.ensures.roster) c.in_ok-out.ensures.count in
+    (ap (λ (r : Roster). rising_edges r.links.items) c.in_ok-out.ensures.roster) c.in_ok-out.ensures.count
+    (ap (λ (v : Vec Begun Global). map begun_in v.items) c.in_ok-out.ensures.begun) in
     drain_output (platform_in e) (platform_in new) c.summarize.new.out.items c.in_ok-out.out.items is
     (c.in_ok-out.ensures.out ∙ ap (flat_map out_octets) (sym (messages_are (platform_in e) (sessions_in e.connections.items) refl refl c.requires.slots c.requires.rising)))
     c.in_ok-summarize.ensures
@@ -45,5 +48,8 @@ returns-clause-sound c =
       rising = subst IsRising (sym c.clear.ensures.items) tt;
       slots = subst AreOfSlots (sym c.in_ok-out.ensures.sessions)
           (slots_told (offers_to e.roster e.announcements.items) e.touched.items (sessions_in e.connections.items) c.requires.slots);
+      named = subst (λ (v : Vec Begun Global). AreNamed v.items (sessions_in c.tell_all.new.self.connections.items)) (sym c.in_ok-out.ensures.begun)
+          (subst (AreNamed e.begun.items) (sym c.in_ok-out.ensures.sessions)
+          (named_told (offers_to e.roster e.announcements.items) e.begun.items e.touched.items (sessions_in e.connections.items) c.requires.named));
       counted = small;
     }

@@ -20,6 +20,7 @@ loop-place-preserved c =
       count = inv.count;
       roster = inv.roster;
       announcements = inv.announcements;
+      begun = inv.begun;
       touched = inv.touched;
       told = draining_more offers e.touched.items c.loop-place.place (sessions_in e.connections.items) c.loop-place.self.connections.items c.work.new.connection c.index_mut-connection.result.now
           c.loop-place.out.items c.work.new.out.items e.written c.loop-place.self.written c.saturating_add-self.result c.in_ok-updates.updates within c.index_mut-connection.ensures.value inv.told

@@ -9,6 +9,7 @@ invariant-loop-place l = record {
   count : vec_len l.self.connections ≡ l.place-end;
   roster : l.self.roster ≡ l.initial.self.roster;
   announcements : l.self.announcements ≡ l.initial.self.announcements;
+  begun : l.self.begun ≡ l.initial.self.begun;
   touched : l.self.touched ≡ l.initial.self.touched;
   told : Draining (offers_to l.initial.self.roster l.initial.self.announcements.items) l.initial.self.touched.items l.place (sessions_in l.initial.self.connections.items) l.self.connections.items l.out.items
       l.initial.self.written l.self.written;

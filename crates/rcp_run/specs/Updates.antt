@@ -1,0 +1,29 @@
+-- What reading the body of an UPDATE says of its first fault.
+use Rattle.std.specs.Prelude.{◌≡◌, ℕ, ◌≤◌, List, Some}
+use Rattle.std.specs.Int.{w16}
+use Rattle.bgp_fault.specs.Faults.{IsWithin}
+use Rattle.bgp_msg.specs.Written.{data_length}
+use Rattle.path_attrs.specs.Refusals.{fault_in}
+use Rattle.rcp_model.specs.Messages.{FaultOf}
+use Rattle.rcp_model.specs.Updates.{update_fault}
+use Rattle.rcp_run.specs.declared.update.Found.{Found}
+use Rattle.rcp_run.specs.declared.update.Unread.{Unread}
+use Rattle.rcp_run.specs.declared.update.Unread.TheVariants.{Faulty, NoMemory}
+
+-- what holds of the fault, if memory did not run out
+abbrev pub IfFaulty : Unread → (Found → Type 0) → Type 0
+IfFaulty (Faulty found) P = P found
+IfFaulty NoMemory P = Unit {0}
+
+abbrev pub fault_of : Found → FaultOf
+fault_of found = fault_in found.octets.now found.fault
+
+-- a fault whose data a NOTIFICATION has room for
+pub record IsTold (found : Found) : Type 0 where
+  pub within : IsWithin found.octets.now found.fault.extra
+  pub room : data_length found.fault.extra ≤ 4073
+
+-- the first fault of the body
+pub record IsFirst (body : List ℕ) (found : Found) : Type 0 where
+  pub first : update_fault w16 body ≡ Some (fault_of found)
+  pub told : IsTold found
