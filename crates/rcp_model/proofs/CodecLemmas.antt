@@ -66,9 +66,9 @@ cell_updates = record { whole = cell-whole; effect = cell-effect; read = read-al
 -- ---- what is read of an UPDATE
 
 -- the sections of octets are octets
-record OctetSections (sections : Sections) : Type 0 where
+pub record OctetSections (sections : Sections) : Type 0 where
   withdrawn : All (λ o. o < 256) sections.withdrawn
-  attributes : All (λ o. o < 256) sections.attributes
+  pub attributes : All (λ o. o < 256) sections.attributes
   nlri : All (λ o. o < 256) sections.nlri
 
 section-octets : (octets : List ℕ) → All (λ o. o < 256) octets → All (λ o. o < 256) (section octets)
@@ -77,7 +77,7 @@ section-octets octets all = All-take (λ o. o < 256) _ (drop 2 octets) (All-drop
 after_section-octets : (octets : List ℕ) → All (λ o. o < 256) octets → All (λ o. o < 256) (after_section octets)
 after_section-octets octets all = All-drop (λ o. o < 256) _ octets all
 
-sections-octets : (body : List ℕ) (sections : Sections) → All (λ o. o < 256) body → sections_of body ≡ Some sections → OctetSections sections
+pub sections-octets : (body : List ℕ) (sections : Sections) → All (λ o. o < 256) body → sections_of body ≡ Some sections → OctetSections sections
 unfolding sections_of
 sections-octets body sections all is =
     let same = (cond_some (has_section body && has_section (after_section body)) (record { withdrawn = section body; attributes = section (after_section body); nlri = after_section (after_section body) }) sections is).1 in

@@ -1,7 +1,7 @@
 -- What the engine's steps do to the platform that its lists mean.
-use Rattle.std.proofs.Common.{◌≡◌, ℕ, zero, suc, ◌+◌, ◌-◌, ◌^◌, ◌<◌, ◌≤◌, min, Bool, true, false, cond, not, ◌&&◌, eqb, ltb, List, [], ◌∷◌, ◌++◌, length, map, get_or, take, drop, filter, Option, Some, None, refl, sym, ap, subst, ◌∙◌, inl, inr, arith, add-one, append_assoc, append-nil, length-append, zero-add, Fits, w8}
+use Rattle.std.proofs.Common.{◌≡◌, ℕ, zero, suc, ◌+◌, ◌-◌, ◌^◌, ◌<◌, ◌≤◌, min, Bool, true, false, cond, not, ◌&&◌, ◌||◌, eqb, ltb, List, [], ◌∷◌, ◌++◌, length, map, get_or, take, drop, filter, Option, Some, None, refl, sym, ap, ◌∙◌, inl, inr, arith, add-one, append_assoc, append-nil, length-append, zero-add}
 use Rattle.std.specs.Prelude.{is_some}
-use Rattle.std.specs.List.{list_any, list_all, flat_map, All, AllByRecursion}
+use Rattle.std.specs.List.{list_any, list_all, flat_map, AllByRecursion}
 use Rattle.std.specs.Int.{w16, w64, to_be_bytes}
 use Rattle.std.proofs.Math.ListN.{set}
 use Rattle.std.proofs.Math.Seq.{drop-cons}
@@ -14,19 +14,20 @@ use Rattle.std.proofs.lemmas.Bool.Decides.{nat_tests}
 use Rattle.std.proofs.lemmas.Slice.Eq.{bytes_eq-Decides}
 use Rattle.rcp_base.specs.IpPrefix.{IpPrefix}
 use Rattle.rcp_model.specs.declared.event.Edge.{Edge}
+use Rattle.rcp_model.specs.Messages.{FaultOf}
 use Rattle.rcp_model.specs.Maps.{get_at, put_at, set_at, without, same_prefix, include, include_all, is_among}
-use Rattle.rcp_model.specs.Attributes.{canonical_octets, attributes_in}
+use Rattle.rcp_model.specs.Attributes.{Attribute, canonical_octets, attributes_in}
 use Rattle.rcp_model.specs.Updates.{Table, changes_of, prefixes_in, sections_of, update_fault}
 use Rattle.rcp_model.specs.LinkState.{same_number}
 use Rattle.rcp_base.specs.declared.names.Member.{Member}
 use Rattle.rcp_model.specs.Costs.{cost}
-use Rattle.rcp_model.specs.Routes.{RouteFields, route_of, route_in}
+use Rattle.rcp_model.specs.Routes.{route_of}
 use Rattle.rcp_model.specs.Edges.{rising_edges}
-use Rattle.rcp_model.specs.Control.{Domain, Place, Announcements, Server, Up, Down, Change, Work, same_place, same_octets, announced_by, announced_prefixes, of_slot, table_of, is_connected, router_at, cost_between, slot_cost, offer, after, after_all}
+use Rattle.rcp_model.specs.Control.{Domain, Place, Announcements, Server, Up, Change, Work, same_place, same_octets, announced_by, announced_prefixes, of_slot, table_of, is_connected, router_at, cost_between, slot_cost, offer, after, after_all}
 use Rattle.rcp_model.specs.Feed.{OCTETS, SUMMARY}
-use Rattle.rcp_model.specs.Meaning.{Established, slot_in, Platform, domain_of, fresh, slot_from, slot_on, is_whole_update, work_events, OutRecord, out_octets, cell_update, cell_of, changed_cells, messages_to, drained, counted, summary, was_begun, is_new_number, seated, closed, heard, drained_server, drain_messages, drain}
+use Rattle.rcp_model.specs.Meaning.{Established, slot_in, Platform, domain_of, fresh, slot_from, slot_on, is_whole_update, work_events, OutRecord, out_octets, cell_update, cell_of, changed_cells, messages_to, drained, counted, summary, was_begun, is_new_number, seated, closed, heard, fault_output, heard_output, drained_server, drain_messages, drain}
 use Rattle.rcp_model.specs.Meaning as meaning
-use Rattle.rcp_model.specs.Plain.{may_be_seated}
+use Rattle.rcp_model.specs.Plain.{may_be_seated, may_be_heard}
 use Rattle.rcp_model.proofs.MapLemmas.{IsKeyTest, get_at-set_at_same, get_at-set_at_other, same_prefix-is, same_prefix-itself, same_prefix-other, prefix_test}
 use Rattle.rcp_model.proofs.MeaningLemmas.{after_all-append}
 use Rattle.rcp_model.proofs.ServerLemmas.{number-other, place_test}
@@ -34,7 +35,7 @@ use Rattle.rcp_run.specs.declared.announcements.Announcement.{Announcement}
 use Rattle.rcp_run.specs.declared.engine.Begun.{Begun}
 use Rattle.rcp_run.specs.declared.engine.Connection.{Connection}
 use Rattle.rcp_run.specs.declared.costs.Reached.{Reached}
-use Rattle.rcp_run.specs.State.{cost_in, cost_to, costs_in, IsKept, IsKeptRoute, Session, entry_in, announcements_in, session_in, sessions_in, connection_of, seat_of, begun_in, IsRising, AreOfSlots, AreNamed, changed_of, not_announced, without_slot, table_told, cell_told, updates_told, session_told, messages_told, all_told}
+use Rattle.rcp_run.specs.State.{cost_in, cost_to, costs_in, IsKept, Session, entry_in, announcements_in, session_in, sessions_in, connection_of, seat_of, begun_in, IsRising, AreOfSlots, AreNamed, changed_of, not_announced, without_slot, table_told, cell_told, updates_told, session_told, messages_told, all_told}
 use Rattle.rcp_run.proofs.RisingLemmas.{not_among}
 use Rattle.rcp_run.proofs.RelaxLemmas.{cost-rising}
 use Rattle.rcp_run.proofs.DecisionLemmas.{router-at, router-past}
@@ -92,7 +93,7 @@ list_any-map : {X Y : Type 0} (test : Y → Bool) (f : X → Y) (xs : List X) �
 list_any-map test f [] = refl
 list_any-map test f (x ∷ xs) = ap (λ (b : Bool). test (f x) || b) (list_any-map test f xs)
 
-pub begun_before : (begun : List Begun) (number : ℕ) → was_begun (map begun_in begun) number ≡ list_any (λ (b : Begun). eqb b.number number) begun
+begun_before : (begun : List Begun) (number : ℕ) → was_begun (map begun_in begun) number ≡ list_any (λ (b : Begun). eqb b.number number) begun
 begun_before begun number = list_any-map (λ (entry : ℕ × ℕ). eqb entry.0 number) begun_in begun
 
 pub slot_on-seated : (ss : List Session) (number slot : ℕ) → slot_on (map connection_of ss) number ≡ Some slot → is_some (get_at same_number slot (map seat_of ss)) ≡ true
@@ -225,21 +226,53 @@ pub changed_first : (p q : Platform) (slot : ℕ) (octets : Option (List ℕ)) (
 unfolding after_all
 changed_first p q slot octets x ps is = rw is refl
 
+-- a prefix in front that is announced too, and one that isn't
+pub announced_too : (nlri : List ℕ) (p : IpPrefix) (ps : List IpPrefix) → is_among (prefixes_in nlri) p ≡ true → not_announced nlri ps ≡ not_announced nlri (p ∷ ps)
+announced_too nlri p ps e = rw e refl
+
+pub withdrawn_alone : (nlri : List ℕ) (p : IpPrefix) (ps : List IpPrefix) → is_among (prefixes_in nlri) p ≡ false → p ∷ not_announced nlri ps ≡ not_announced nlri (p ∷ ps)
+withdrawn_alone nlri p ps e = rw e refl
+
 pub changed_none : (p : Platform) (slot : ℕ) (octets : Option (List ℕ)) → changed_of p slot octets [] ≡ p
 unfolding after_all
 changed_none p slot octets = refl
 
+pub no_prefixes : (nlri : List ℕ) → eqb (length nlri) 0 ≡ true → prefixes_in nlri ≡ []
+no_prefixes [] e = refl
+no_prefixes (o ∷ nlri) e = let none : length (o ∷ nlri) ≡ 0 = eqb-true (length (o ∷ nlri)) 0 e in absurd (omega arith)
+
 -- ---- a faultless UPDATE is heard
+
+changes_are : (body withdrawn attrs nlri : List ℕ) → sections_of body ≡ Some (record { withdrawn = withdrawn; attributes = attrs; nlri = nlri })
+    → changes_of body ≡ record { withdrawn = not_announced nlri (prefixes_in withdrawn); announced = prefixes_in nlri; attributes = attributes_in attrs }
+unfolding changes_of
+changes_are body withdrawn attrs nlri are = rw (changes_of, are) refl
 
 pub heard_all : (p : Platform) (message withdrawn attrs nlri octets : List ℕ) (slot : ℕ) (found : Option ℕ) → found ≡ Some slot → is_whole_update message ≡ true
     → update_fault w16 (drop 19 message) ≡ None → sections_of (drop 19 message) ≡ Some (record { withdrawn = withdrawn; attributes = attrs; nlri = nlri })
     → octets ≡ canonical_octets (attributes_in attrs)
     → changed_of (changed_of p slot None (not_announced nlri (prefixes_in withdrawn))) slot (Some octets) (prefixes_in nlri) ≡ heard p message found
-unfolding changes_of
 heard_all p message withdrawn attrs nlri octets slot found some whole faultless are octets_are =
-    rw (some, whole, faultless, are, octets_are)
+    rw (some, whole, faultless, changes_are (drop 19 message) withdrawn attrs nlri are, octets_are)
     (ap (λ (s : Server). let r : Platform = record p { server = s } in r)
     (sym (after_all-append (domain_of p.roster) (map (λ q. Change slot q None) (not_announced nlri (prefixes_in withdrawn))) (map (λ q. Change slot q (Some (canonical_octets (attributes_in attrs)))) (prefixes_in nlri)) p.server)))
+
+pub heard_faulty : (p : Platform) (message : List ℕ) (slot : ℕ) (why : FaultOf) (found : Option ℕ) → found ≡ Some slot → is_whole_update message ≡ true
+    → update_fault w16 (drop 19 message) ≡ Some why → closed p slot ≡ heard p message found
+heard_faulty p message slot why found some whole faulty = rw (some, whole, faulty) refl
+
+pub output_faultless : (number : ℕ) (message : List ℕ) (slot : ℕ) (found : Option ℕ) → found ≡ Some slot → is_whole_update message ≡ true
+    → update_fault w16 (drop 19 message) ≡ None → [] ≡ heard_output number message found
+output_faultless number message slot found some whole faultless = rw (some, whole, faultless) refl
+
+pub output_faulty : (number : ℕ) (message : List ℕ) (slot : ℕ) (why : FaultOf) (found : Option ℕ) → found ≡ Some slot → is_whole_update message ≡ true
+    → update_fault w16 (drop 19 message) ≡ Some why → fault_output number (Some why) ≡ heard_output number message found
+output_faulty number message slot why found some whole faulty = rw (some, whole, faulty) refl
+
+-- anything may come on a connection that is closed, where it was begun
+pub heard_closed : (p : Platform) (begun : List Begun) (number : ℕ) (octets : List ℕ) (found : Option ℕ) (old : Bool) → p.begun ≡ map begun_in begun → None ≡ found
+    → old ≡ list_any (λ (b : Begun). eqb b.number number) begun → may_be_heard p number octets found ≡ old
+heard_closed p begun number octets found old are none is = rw (← none, are) (begun_before begun number ∙ sym is)
 
 -- ---- a session ends
 
@@ -268,6 +301,14 @@ gone_announcements slot (a ∷ entries) =
     elim (cases_Bool (eqb a.slot slot)) [
       | inl e ↦ rw e (gone_announcements slot entries)
       | inr e ↦ rw e (ap (λ (l : Announcements). entry_in a ∷ l) (gone_announcements slot entries))
+    ]
+
+pub sessions_left : (slot : ℕ) (cs : List Connection) → sessions_in (filter (λ (c : Connection). not (eqb c.slot slot)) cs) ≡ without_slot slot (sessions_in cs)
+sessions_left slot [] = refl
+sessions_left slot (c ∷ cs) =
+    elim (cases_Bool (eqb c.slot slot)) [
+      | inl e ↦ rw e (sessions_left slot cs)
+      | inr e ↦ rw e (ap (λ (l : List Session). session_in c ∷ l) (sessions_left slot cs))
     ]
 
 pub closed_one : (p q : Platform) (ss ts : List Session) (entries : List Announcement) (slot : ℕ) → p.connections ≡ map connection_of ss → p.server.tables ≡ map seat_of ss → p.server.announcements ≡ announcements_in entries
@@ -651,11 +692,9 @@ costs_from members links edges reached slot k to m is within m_is costs edges_ar
 
 -- ---- routes that are kept
 
-pub kept_route : (as_number : ℕ) (octets : List ℕ) (route : RouteFields) → route ≡ route_in w16 as_number octets → canonical_octets (attributes_in octets) ≡ octets → IsKeptRoute as_number route × (route.attrs ≡ octets)
+pub route_octets : (as_number : ℕ) (attrs : List Attribute) → (route_of w16 as_number attrs).attrs ≡ canonical_octets attrs
 unfolding route_of
-kept_route as_number octets route is canonical =
-    let attrs : route.attrs ≡ octets = ap (λ (r : RouteFields). r.attrs) is ∙ canonical in
-    ((is ∙ ap (route_in w16 as_number) (sym attrs), ap (λ (l : List ℕ). canonical_octets (attributes_in l)) attrs ∙ canonical ∙ sym attrs), attrs)
+route_octets as_number attrs = refl
 
 -- ---- a router of the roster
 

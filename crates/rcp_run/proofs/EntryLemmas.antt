@@ -1,9 +1,10 @@
 -- The entry of a router for a prefix: where it stands in the list, and what it says.
-use Rattle.std.proofs.Common.{◌≡◌, ℕ, zero, suc, false, List, [], ◌∷◌, get_or, Some, None, option_map, refl, sym, ap, subst, ◌∙◌, inl, inr}
+use Rattle.std.proofs.Common.{◌≡◌, ℕ, zero, suc, false, not, List, [], ◌∷◌, get_or, Option, Some, None, option_map, refl, sym, ap, subst, ◌∙◌, inl, inr}
+use Rattle.std.specs.Prelude.{is_some}
 use Rattle.std.specs.List.{list_any, position, AllByRecursion}
 use Rattle.std.proofs.lemmas.Bool.{cases_Bool, or_parts}
 use Rattle.rcp_base.specs.IpPrefix.{IpPrefix}
-use Rattle.rcp_model.specs.Control.{same_place, announced_by}
+use Rattle.rcp_model.specs.Control.{same_place, same_octets, announced_by}
 use Rattle.rcp_run.specs.declared.announcements.Announcement.{Announcement}
 use Rattle.rcp_run.specs.State.{entry_in, announcements_in, entry_at}
 use Rattle.rcp_run.proofs.ListMaps.{IsPlace, place_is, no_place}
@@ -45,3 +46,8 @@ entry_has P (y ∷ xs) slot p x all is =
       | inl e ↦ let same : Some y ≡ Some x = rw e at is in let y_is : y ≡ x = cc in subst P y_is all.0
       | inr e ↦ entry_has P xs slot p x all.1 (rw e at is)
     ]
+
+-- octets that aren't the same as none are some
+pub not_same_none : (octets : Option (List ℕ)) → not (same_octets octets None) ≡ is_some octets
+not_same_none None = refl
+not_same_none (Some octets) = refl

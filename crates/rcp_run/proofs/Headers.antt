@@ -1,9 +1,8 @@
 -- A whole UPDATE by its header.
-use Rattle.std.proofs.Common.{◌≡◌, ℕ, ◌<◌, ◌≤◌, true, false, eqb, leb, ◌&&◌, List, length, Option, Some, None, ◌∙◌, inl, inr, arith}
-use Rattle.std.proofs.lemmas.Bool.{cases_Bool, or_parts, and_left, le-leb, lt-leb, leb-true, ltb-false, ne_eqb, both_ways}
+use Rattle.std.proofs.Common.{◌≡◌, ℕ, ◌<◌, ◌≤◌, true, false, eqb, leb, ◌&&◌, List, length, Some, None, refl, ◌∙◌, inl, inr, arith}
+use Rattle.std.proofs.lemmas.Bool.{cases_Bool, and_from, and_left, and_right, le-leb, lt-leb, eq-eqb, ne_eqb, both_ways}
 use Rattle.rcp_model.specs.Messages.{FaultOf, length_field, type_field, header_fault, message_size}
 use Rattle.rcp_model.specs.Meaning.{is_whole_update}
-use Rattle.rcp_model.proofs.ReadingLemmas.{header_passes}
 
 pub no_header : (octets : List ℕ) → length octets < 19 → is_whole_update octets ≡ false
 unfolding is_whole_update message_size
@@ -17,17 +16,22 @@ faulty_header octets fault is =
       | inr e ↦ rw e refl
     ]
 
-pub by_header : (octets : List ℕ) → 19 ≤ length octets → header_fault octets ≡ None → is_whole_update octets ≡ (eqb (length_field octets) (length octets) && eqb (type_field octets) 2)
-unfolding is_whole_update message_size
-by_header octets long faultless =
-    elim (cases_Bool (leb (length_field octets) (length octets))) [
-      | inl e ↦ rw (le-leb 19 (length octets) long, faultless, e) refl
-      | inr e ↦ rw (le-leb 19 (length octets) long, faultless, e, other e) refl
-    ] where
-      other : leb (length_field octets) (length octets) ≡ false → eqb (length_field octets) (length octets) ≡ false
-      other e = ne_eqb (length_field octets) (length octets) (λ same. both_ways (leb (length_field octets) (length octets)) e (le-leb (length_field octets) (length octets) (omega (arith, same))))
+module _ (octets : List ℕ) (long : 19 ≤ length octets) (faultless : header_fault octets ≡ None) where
+  by_header : is_whole_update octets ≡ (eqb (length_field octets) (length octets) && eqb (type_field octets) 2)
+  unfolding is_whole_update message_size
+  by_header =
+      elim (cases_Bool (leb (length_field octets) (length octets))) [
+        | inl e ↦ rw (le-leb 19 (length octets) long, faultless, e) refl
+        | inr e ↦ rw (le-leb 19 (length octets) long, faultless, e, other e) refl
+      ] where
+        other : leb (length_field octets) (length octets) ≡ false → eqb (length_field octets) (length octets) ≡ false
+        other e = ne_eqb (length_field octets) (length octets) (λ same. both_ways (leb (length_field octets) (length octets)) e (le-leb (length_field octets) (length octets) (omega (arith, same))))
 
-pub most_octets : (octets : List ℕ) → header_fault octets ≡ None → length_field octets ≤ 4096
-most_octets octets faultless =
-    let passed = header_passes octets faultless in
-    ltb-false 4096 (length_field octets) (or_parts _ _ passed.1.0).1
+  pub of_another_type : (type_field octets ≡ 2 → ⊥) → is_whole_update octets ≡ false
+  of_another_type other = by_header ∙ and_right (eqb (length_field octets) (length octets)) (eqb (type_field octets) 2) (ne_eqb (type_field octets) 2 other)
+
+  pub of_another_length : (length_field octets ≡ length octets → ⊥) → is_whole_update octets ≡ false
+  of_another_length other = by_header ∙ and_left (eqb (length_field octets) (length octets)) (eqb (type_field octets) 2) (ne_eqb (length_field octets) (length octets) other)
+
+  pub whole : length_field octets ≡ length octets → type_field octets ≡ 2 → is_whole_update octets ≡ true
+  whole all update = by_header ∙ and_from (eqb (length_field octets) (length octets)) (eqb (type_field octets) 2) (eq-eqb _ _ all) (eq-eqb _ _ update)

@@ -1,7 +1,8 @@
 pub mod Fits
 pub mod Words
-pub mod Numbers
 pub mod Headers
+pub mod UpdateLemmas
+pub mod OutputLemmas
 pub mod Lines
 pub mod ListMaps
 pub mod EntryLemmas

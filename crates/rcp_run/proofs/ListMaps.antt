@@ -1,7 +1,7 @@
 -- A list whose entries are those of a map: what is found at a key, put there, and taken away.
 use Rattle.std.proofs.Common.{◌≡◌, ℕ, zero, suc, ◌+◌, ◌<◌, Bool, true, false, List, [], ◌∷◌, ◌++◌, length, map, get_or, Option, Some, None, refl, sym, ap, ◌∙◌, inl, inr, arith}
 use Rattle.std.specs.Prelude.{is_some}
-use Rattle.std.specs.List.{list_any, position, position_from, remove}
+use Rattle.std.specs.List.{list_any, position, position_from, remove, AllByRecursion}
 use Rattle.std.proofs.Math.ListN.{set}
 use Rattle.std.proofs.lemmas.Bool.{cases_Bool, or_parts}
 use Rattle.std.proofs.lemmas.Iterator.Adapters.{position_from-zero}
@@ -127,3 +127,9 @@ module _ {X K V : Type 0} (same : K → K → Bool) (test : IsKeyTest same) (f :
 
   pub written : (value : V) (i : ℕ) (y : X) → Some i ≡ position (λ x. same key (f x).0) zs → f y ≡ (key, value) → map f (set xs i y) ≡ put_at same key value (map f xs)
   written value i y some is = put_found same f key value xs i y (present i some) is
+
+pub all_removed : {X : Type 0} (P : X → Type 0) (xs : List X) (i : ℕ) → AllByRecursion P xs → AllByRecursion P (remove xs i)
+all_removed P [] zero all = all
+all_removed P [] (suc i) all = all
+all_removed P (x ∷ xs) zero all = all.1
+all_removed P (x ∷ xs) (suc i) all = (all.0, all_removed P xs i all.1)

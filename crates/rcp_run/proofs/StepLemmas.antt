@@ -1,10 +1,20 @@
 -- What the record of each kind means, and what is known of it where it is plausible.
-use Rattle.std.proofs.Common.{◌≡◌, ◌<◌, ◌&&◌, true, false, eqb, ltb, [], ◌∷◌, ◌++◌, length, refl}
+use Rattle.std.proofs.Common.{◌≡◌, ◌<◌, ◌&&◌, true, false, eqb, ltb, [], ◌∷◌, ◌++◌, length, refl, Result, Ok, Err}
+use Rattle.std.specs.Prelude.{OnOk, IfOk}
 use Rattle.std.specs.Int.{w32, from_be_bytes}
 use Rattle.std.proofs.lemmas.Bool.{and_parts, eqb-true, ltb-true}
 use Rattle.rcp_model.specs.Feed.{FeedRecord, ROSTER, READY, OCTETS, DRAIN, FINISH}
 use Rattle.rcp_model.specs.Meaning.{Platform, slot_from, slot_on, seated, heard, heard_output, drain, drained_server, drain_messages, summary, step, output}
 use Rattle.rcp_model.specs.Plain.{is_plausible, may_be_seated, may_be_heard, has_form}
+
+-- what holds of a value that came holds also in other words
+pub on_ok : {X E A B : Type 0} (r : Result X E) → (A → B) → OnOk r A → OnOk r B
+on_ok (Ok x) f h = f h
+on_ok (Err e) f h = tt
+
+pub if_ok : {X E : Type 0} (P Q : X → Type 0) (r : Result X E) → ((x : X) → P x → Q x) → IfOk r P → IfOk r Q
+if_ok P Q (Ok x) f h = f x h
+if_ok P Q (Err e) f h = tt
 
 module _ (p : Platform) (item : FeedRecord) where
   pub step-ready : item.kind ≡ READY → step p item ≡ seated p item.source (slot_from 0 p.roster.members (from_be_bytes w32 item.body))

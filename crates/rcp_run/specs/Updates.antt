@@ -5,10 +5,19 @@ use Rattle.bgp_fault.specs.Faults.{IsWithin}
 use Rattle.bgp_msg.specs.Written.{data_length}
 use Rattle.path_attrs.specs.Refusals.{fault_in}
 use Rattle.rcp_model.specs.Messages.{FaultOf}
-use Rattle.rcp_model.specs.Updates.{update_fault}
+use Rattle.rcp_model.specs.Attributes.{Attribute, attributes_in, canonical_octets}
+use Rattle.rcp_model.specs.Routes.{route_of, route_in}
+use Rattle.rcp_model.specs.Updates.{sections_of, update_fault}
 use Rattle.rcp_run.specs.declared.update.Found.{Found}
 use Rattle.rcp_run.specs.declared.update.Unread.{Unread}
 use Rattle.rcp_run.specs.declared.update.Unread.TheVariants.{Faulty, NoMemory}
+
+-- A body has these withdrawn routes and this NLRI, and attributes whose canonical octets and route are those of these.
+pub record Says (body withdrawn nlri : List ℕ) (attributes : List Attribute) : Type 0 where
+  pub octets : List ℕ
+  pub sections : sections_of body ≡ Some (record { withdrawn = withdrawn; attributes = octets; nlri = nlri })
+  pub same_octets : canonical_octets attributes ≡ canonical_octets (attributes_in octets)
+  pub same_route : (as_number : ℕ) → route_of w16 as_number attributes ≡ route_in w16 as_number (canonical_octets attributes)
 
 -- what holds of the fault, if memory did not run out
 abbrev pub IfFaulty : Unread → (Found → Type 0) → Type 0

@@ -71,7 +71,8 @@ pub fn add_fault(out: &mut Vec<u8>, connection: u32, found: &Found<'_>) -> Resul
     let mut message = [0; MOST_OCTETS];
     let count = write_notification(&found.fault, found.octets, &mut message);
     add_message(out, connection, &message[..count])?;
-    add_end(out, connection, BY_FAULT, found.fault.code, found.fault.sub)
+    add_end(out, connection, BY_FAULT, found.fault.code, found.fault.sub)?;
+    Ok(())
 }
 
 /// Adds the record of the end of a connection.

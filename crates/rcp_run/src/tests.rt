@@ -1,3 +1,5 @@
+mod updates;
+
 use crate::{FeedWhy, Status, run};
 use outside::{MemSink, MemSource, Source};
 use std::alloc::{AllocError, Global};

@@ -1,13 +1,10 @@
 //! The body of an UPDATE, read with its attributes.
 
-ghost use Rattle.std.specs.Prelude.{◌≡◌, ◌+◌, ◌≤◌, ◌==◌, true, not, length, Some, None, OnOk, IfOk, IfErr};
+ghost use Rattle.std.specs.Prelude.{◌≡◌, ◌≤◌, ◌==◌, true, not, length, None, OnOk, IfOk, IfErr};
 ghost use Rattle.std.specs.Int.{w16};
-ghost use Rattle.bgp_fault.specs.Faults.{IsWithin};
-ghost use Rattle.bgp_msg.specs.Written.{data_length};
-ghost use Rattle.path_attrs.specs.Readings.{read_of};
 ghost use Rattle.rcp_model.specs.Attributes as attributes;
-ghost use Rattle.rcp_model.specs.Updates.{sections_of, prefixes_fault, update_fault};
-ghost use Rattle.rcp_run.specs.Updates.{IfFaulty, IsFirst};
+ghost use Rattle.rcp_model.specs.Updates.{prefixes_fault, update_fault};
+ghost use Rattle.rcp_run.specs.Updates.{Says, IfFaulty, IsFirst};
 
 use bgp_fault::Fault;
 use bgp_msg::{check_prefixes, read_update};
@@ -43,9 +40,7 @@ pub enum Unread<'a> {
 pub fn read_body(alloc: Global, body: &[u8]) -> Result<FaultlessUpdate<'_>, Unread<'_>>
     requires { length body.now ≤ 4077 }
     ensures faultless { OnOk result (update_fault w16 body.now ≡ None) }
-    ensures read { IfOk result (λ u. (attrs : _) × (sections_of body.now
-        ≡ Some (record { withdrawn = u.withdrawn.now; attributes = attrs; nlri = u.nlri.now }))
-        × (u.attrs ≡ read_of attrs)) }
+    ensures read { IfOk result (λ u. Says body.now u.withdrawn.now u.nlri.now u.attrs) }
     ensures withdrawn { IfOk result (λ u. prefixes_fault u.withdrawn.now ≡ None) }
     ensures nlri { IfOk result (λ u. prefixes_fault u.nlri.now ≡ None) }
     ensures complete { IfOk result (λ u. not (length u.nlri.now == 0) ≡ true → attributes.has_route u.attrs ≡ true) }

@@ -1,19 +1,19 @@
 //! What comes on a connection.
 
-ghost use Rattle.std.specs.Prelude.{◌≡◌, ℕ, ◌≤◌, ◌==◌, [], true, false, not, length, map, filter, IfOk, OnOk, IsTrue, Some, None, Err};
+ghost use Rattle.std.specs.Prelude.{◌≡◌, ℕ, ◌==◌, true, false, not, length, map, filter, IfOk, OnOk, Some, None, Err};
 ghost use Rattle.std.specs.List.{list_any, flat_map};
 ghost use Rattle.std.specs.Int.{w16};
 ghost use Rattle.rcp_model.specs.Maps.{is_among};
-ghost use Rattle.rcp_model.specs.Attributes.{canonical_octets, attributes_in};
+ghost use Rattle.rcp_model.specs.Attributes.{canonical_octets};
 ghost use Rattle.rcp_model.specs.Attributes as attributes;
-ghost use Rattle.rcp_model.specs.Routes.{route_in};
+ghost use Rattle.rcp_model.specs.Routes.{route_of, route_in};
 ghost use Rattle.rcp_model.specs.Updates.{prefixes_in, prefixes_fault};
-ghost use Rattle.rcp_model.specs.Control.{Change, Down, after, is_connected};
-ghost use Rattle.rcp_model.specs.Meaning.{domain_of, slot_on, was_begun, closed, heard, heard_output, out_octets};
+ghost use Rattle.rcp_model.specs.Control.{Change, after, is_connected};
+ghost use Rattle.rcp_model.specs.Meaning.{domain_of, slot_on, closed, heard, heard_output, out_octets};
 ghost use Rattle.rcp_model.specs.Plain.{may_be_heard};
 ghost use Rattle.rcp_run.specs.declared.refusal.Refusal.TheVariants.{NotOfForm};
 ghost use Rattle.rcp_run.specs.Rosters.{roster_in};
-ghost use Rattle.rcp_run.specs.State.{sessions_in, connection_of, begun_in, server_in, platform_in, IsSound, IsKeptRoute, changed_of, without_slot, not_announced};
+ghost use Rattle.rcp_run.specs.State.{sessions_in, connection_of, server_in, platform_in, IsSound, IsKeptRoute, changed_of, not_announced};
 
 use super::{Begun, Connection, Engine};
 use crate::announcements::{announce, drop_all, withdraw};
@@ -93,6 +93,8 @@ impl Engine {
         requires withdrawn { prefixes_fault update.now.withdrawn.now ≡ None }
         requires nlri { prefixes_fault update.now.nlri.now ≡ None }
         requires complete { not (length update.now.nlri.now == 0) ≡ true → attributes.has_route update.now.attrs ≡ true }
+        requires route { (as_number : ℕ) → route_of w16 as_number update.now.attrs
+            ≡ route_in w16 as_number (canonical_octets update.now.attrs) }
         ensures platform { OnOk result (platform_in self.new ≡ changed_of (changed_of (platform_in self.old) slot None
             (not_announced update.now.nlri.now (prefixes_in update.now.withdrawn.now)))
             slot (Some (canonical_octets update.now.attrs)) (prefixes_in update.now.nlri.now)) }
@@ -196,14 +198,14 @@ fn slot_connected(connections: &[Connection], number: u32) -> Option<Slot>
 }
 
 fn was_begun(begun: &[Begun], number: u32) -> bool
-    ensures { result ≡ was_begun (map begun_in begun.now) number }
+    ensures { result ≡ list_any (λ b. b.number == number) begun.now }
 {
     begun.iter().any(|begun| begun.number == number)
 }
 
 /// Takes the connection of the slot away.
 fn unseat(connections: &mut Vec<Connection>, slot: Slot)
-    ensures { sessions_in connections.new.items ≡ without_slot slot (sessions_in connections.old.items) }
+    ensures { connections.new.items ≡ filter (λ c. not (c.slot == slot)) connections.old.items }
 {
     connections.retain(|connection| connection.slot != slot);
 }

@@ -1,0 +1,11 @@
+-- With the router's prefixes of the rest it has all that the router announces.
+use Rattle.std.proofs.Common.{◌≡◌, drop}
+use Rattle.rcp_model.specs.Maps.{include_all}
+use Rattle.rcp_model.specs.Control.{announced_prefixes, of_slot}
+use Rattle.rcp_run.specs.State.{announcements_in}
+use Rattle.rcp_run.proofs.prefixes.add_announced_by.Given as goal
+
+abbrev pub invariant-loop-entry : goal.invariant-loop-entry
+invariant-loop-entry l =
+    include_all (announced_prefixes (of_slot l.slot (announcements_in (drop l.entry-index l.announcements)))) l.prefixes.items
+    ≡ include_all (announced_prefixes (of_slot l.slot (announcements_in l.announcements))) l.initial.prefixes.items
