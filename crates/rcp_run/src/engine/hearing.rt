@@ -17,8 +17,8 @@ ghost use Rattle.rcp_run.specs.State.{sessions_in, connection_of, server_in, pla
 
 use super::{Begun, Connection, Engine};
 use crate::announcements::{announce, drop_all, withdraw};
-use crate::output::add_fault;
 use crate::message::whole_update;
+use crate::output::add_fault;
 use crate::prefixes::{add, add_announced_by};
 use crate::refusal::Refusal;
 use crate::update::{FaultlessUpdate, Unread, read_body};
@@ -31,12 +31,7 @@ use std::alloc::Global;
 impl Engine {
     /// One whole UPDATE comes on a connection that is open, or anything on one that was closed. An UPDATE without a
     /// fault changes what its router announces. One with a fault is answered, and ends the session.
-    pub fn receive(
-        &mut self,
-        alloc: Global,
-        number: u32,
-        octets: &[u8],
-    ) -> Result<Vec<u8>, Refusal>
+    pub fn receive(&mut self, alloc: Global, number: u32, octets: &[u8]) -> Result<Vec<u8>, Refusal>
         requires { IsSound self.old }
         ensures platform { OnOk result (platform_in self.new
             ≡ heard (platform_in self.old) octets.now (slot_on (platform_in self.old).connections number)) }

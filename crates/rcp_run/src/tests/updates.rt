@@ -1,9 +1,12 @@
 //! UPDATEs of any content: what they announce and withdraw, and how faulty ones are answered.
 
-use super::{ANNOUNCEMENT, WITHDRAWAL, add, add_summary, announcement, connected, decided, replayed, told};
+use super::{
+    ANNOUNCEMENT, WITHDRAWAL, add, add_summary, announcement, connected, decided, replayed, told,
+};
 use crate::{FeedWhy, Status};
 use std::alloc::Global;
 use std::test::Fail;
+use std::thread::Threads;
 
 // Octets of path attributes (RFC 4271 section 4.3).
 const IGP: &[u8] = &[0x40, 0x01, 0x01, 0x00];
@@ -36,24 +39,22 @@ fn update(
     for piece in attributes {
         attrs.extend_from_slice(piece)?;
     }
-    let count = 23 + withdrawn.len() + attrs.len() + nlri.len();
-    let mut message = vec![in alloc; 0xff; 16]?;
-    message.extend_from_slice(&u16::try_from(count)?.to_be_bytes())?;
-    message.push(2)?;
-    message.extend_from_slice(&u16::try_from(withdrawn.len())?.to_be_bytes())?;
-    message.extend_from_slice(withdrawn)?;
-    message.extend_from_slice(&u16::try_from(attrs.len())?.to_be_bytes())?;
-    message.extend_from_slice(&attrs)?;
-    message.extend_from_slice(nlri)?;
-    Ok(message)
+    let mut body = Vec::new(alloc);
+    body.extend_from_slice(&u16::try_from(withdrawn.len())?.to_be_bytes())?;
+    body.extend_from_slice(withdrawn)?;
+    body.extend_from_slice(&u16::try_from(attrs.len())?.to_be_bytes())?;
+    body.extend_from_slice(&attrs)?;
+    body.extend_from_slice(nlri)?;
+    message(alloc, 2, &body)
 }
 
-// A NOTIFICATION of this code, subcode and data.
-fn notification(alloc: Global, code: u8, sub: u8, data: &[u8]) -> Result<Vec<u8>, Fail> {
+// A message of a type with this body.
+fn message(alloc: Global, kind: u8, body: &[u8]) -> Result<Vec<u8>, Fail> {
     let mut message = vec![in alloc; 0xff; 16]?;
-    message.extend_from_slice(&u16::try_from(21 + data.len())?.to_be_bytes())?;
-    message.extend_from_slice(&[3, code, sub])?;
-    message.extend_from_slice(data)?;
+    let count = u16::try_from(body.len())?;
+    message.extend_from_slice(&count.saturating_add(19).to_be_bytes())?;
+    message.push(kind)?;
+    message.extend_from_slice(body)?;
     Ok(message)
 }
 
@@ -78,8 +79,8 @@ link 10.0.0.1 10.0.0.2 1\nlink 10.0.0.2 10.0.0.3 30\nlink 10.0.0.2 10.0.0.4 5\n"
             &exit_discriminator(exit),
             PREF_100,
         ];
-        let message = update(alloc, &[], &attributes, PREFIX)?;
-        add(&mut feed, b'B', u32::from(router), &message)?;
+        let announced = update(alloc, &[], &attributes, PREFIX)?;
+        add(&mut feed, b'B', u32::from(router), &announced)?;
     }
     add(&mut feed, b'D', 0, &[])?;
     add(&mut feed, b'Z', 0, &[])?;
@@ -99,23 +100,22 @@ link 10.0.0.1 10.0.0.2 1\nlink 10.0.0.2 10.0.0.3 30\nlink 10.0.0.2 10.0.0.4 5\n"
     Ok(())
 }
 
-// What is written where A announces a message and it is decided.
-fn written_for(rt: &HostRuntime, message: &[u8]) -> Result<Vec<u8>, Fail> {
-    let mut feed = connected(rt.alloc())?;
+// A feed in which A announces a message and it is decided.
+fn deciding(alloc: Global, message: &[u8]) -> Result<Vec<u8>, Fail> {
+    let mut feed = connected(alloc)?;
     add(&mut feed, b'B', 1, message)?;
     add(&mut feed, b'D', 0, &[])?;
     add(&mut feed, b'Z', 0, &[])?;
-    let (status, written) = replayed(rt, rt.alloc(), feed)?;
-    assert_eq!(rt; status, Status::Done);
-    Ok(written)
+    Ok(feed)
 }
 
 #[test]
 fn looped_route_is_no_candidate(rt: HostRuntime) -> Result<(), Fail> {
     let alloc = rt.alloc();
     let path = [0x40, 0x02, 0x06, 0x02, 0x02, 0xfd, 0xe9, 0xfd, 0xe8];
-    let message = update(alloc, &[], &[IGP, &path, &next_hop(1), PREF_100], PREFIX)?;
-    let written = written_for(&rt, &message)?;
+    let announced = update(alloc, &[], &[IGP, &path, &next_hop(1), PREF_100], PREFIX)?;
+    let (status, written) = replayed(&rt, alloc, deciding(alloc, &announced)?)?;
+    assert_eq!(rt; status, Status::Done);
     let mut wanted = Vec::new(alloc);
     add_summary(&mut wanted, 3, 1, 0)?;
     assert_eq!(rt; written.as_slice(), wanted.as_slice());
@@ -138,18 +138,20 @@ fn with_unrecognised(alloc: Global, flags: u8, count: u16) -> Result<Vec<u8>, Fa
 #[test]
 fn longest_route_is_sent_and_one_octet_more_is_not(rt: HostRuntime) -> Result<(), Fail> {
     let alloc = rt.alloc();
-    let message = with_unrecognised(alloc, 0xd0, 4039)?;
-    assert_eq!(rt; message.len(), 4095);
-    let written = written_for(&rt, &message)?;
+    let announced = with_unrecognised(alloc, 0xd0, 4039)?;
+    assert_eq!(rt; announced.len(), 4095);
+    let (status, written) = replayed(&rt, alloc, deciding(alloc, &announced)?)?;
+    assert_eq!(rt; status, Status::Done);
     let sent = with_unrecognised(alloc, 0xf0, 4039)?;
     let mut wanted = Vec::new(alloc);
     add(&mut wanted, b'B', 2, &sent)?;
     add(&mut wanted, b'B', 3, &sent)?;
     add_summary(&mut wanted, 3, 1, 2)?;
     assert_eq!(rt; written.as_slice(), wanted.as_slice());
-    let message = with_unrecognised(alloc, 0xd0, 4040)?;
-    assert_eq!(rt; message.len(), 4096);
-    let written = written_for(&rt, &message)?;
+    let announced = with_unrecognised(alloc, 0xd0, 4040)?;
+    assert_eq!(rt; announced.len(), 4096);
+    let (status, written) = replayed(&rt, alloc, deciding(alloc, &announced)?)?;
+    assert_eq!(rt; status, Status::Done);
     let mut wanted = Vec::new(alloc);
     add_summary(&mut wanted, 3, 1, 0)?;
     assert_eq!(rt; written.as_slice(), wanted.as_slice());
@@ -160,8 +162,9 @@ fn longest_route_is_sent_and_one_octet_more_is_not(rt: HostRuntime) -> Result<()
 fn prefix_withdrawn_and_announced_is_announced(rt: HostRuntime) -> Result<(), Fail> {
     let alloc = rt.alloc();
     let attributes = [IGP, BY_65001, &next_hop(1), PREF_100];
-    let message = update(alloc, PREFIX, &attributes, PREFIX)?;
-    let written = written_for(&rt, &message)?;
+    let announced = update(alloc, PREFIX, &attributes, PREFIX)?;
+    let (status, written) = replayed(&rt, alloc, deciding(alloc, &announced)?)?;
+    assert_eq!(rt; status, Status::Done);
     let mut wanted = Vec::new(alloc);
     add(&mut wanted, b'B', 2, &ANNOUNCEMENT)?;
     add(&mut wanted, b'B', 3, &ANNOUNCEMENT)?;
@@ -191,104 +194,120 @@ fn withdrawn_route_gives_way_to_the_other(rt: HostRuntime) -> Result<(), Fail> {
 #[test]
 fn update_that_says_nothing_changes_nothing(rt: HostRuntime) -> Result<(), Fail> {
     let alloc = rt.alloc();
-    let message = update(alloc, &[], &[], &[])?;
-    assert_eq!(rt; message.len(), 23);
-    let written = written_for(&rt, &message)?;
+    let announced = update(alloc, &[], &[], &[])?;
+    assert_eq!(rt; announced.len(), 23);
+    let (status, written) = replayed(&rt, alloc, deciding(alloc, &announced)?)?;
+    assert_eq!(rt; status, Status::Done);
     let mut wanted = Vec::new(alloc);
     add_summary(&mut wanted, 3, 0, 0)?;
     assert_eq!(rt; written.as_slice(), wanted.as_slice());
     Ok(())
 }
 
-// An UPDATE with a fault: its attributes and its NLRI, and the subcode and the data of its NOTIFICATION.
-struct Faulty<'a> {
-    attributes: &'a [&'a [u8]],
-    nlri: &'a [u8],
-    sub: u8,
-    data: &'a [u8],
+// A feed in which A sends a message when it was decided, and then anything, which is of no account where its session has
+// ended.
+fn interrupted(alloc: Global, message: &[u8]) -> Result<Vec<u8>, Fail> {
+    let mut feed = decided(alloc)?;
+    add(&mut feed, b'B', 1, message)?;
+    add(&mut feed, b'B', 1, b"anything")?;
+    add(&mut feed, b'B', 1, &ANNOUNCEMENT)?;
+    add(&mut feed, b'D', 0, &[])?;
+    add(&mut feed, b'Z', 0, &[])?;
+    Ok(feed)
+}
+
+// The answer to it, a NOTIFICATION with this subcode of an UPDATE Message Error and with this data. The routes of A are
+// gone, so that B is told of C's.
+fn answered(alloc: Global, sub: u8, data: &[u8]) -> Result<Vec<u8>, Fail> {
+    let mut out = told(alloc)?;
+    let mut body = Vec::from_slice(alloc, &[3, sub])?;
+    body.extend_from_slice(data)?;
+    add(&mut out, b'B', 1, &message(alloc, 3, &body)?)?;
+    add(&mut out, b'X', 1, &[1, 3, sub])?;
+    add(&mut out, b'B', 2, &announcement(3, 100))?;
+    add_summary(&mut out, 2, 1, 2)?;
+    Ok(out)
 }
 
 #[test]
-fn faulty_update_is_answered_and_ends_the_session(rt: HostRuntime) -> Result<(), Fail> {
+fn faulty_attribute_value_is_answered_and_ends_the_session(rt: HostRuntime) -> Result<(), Fail> {
     let alloc = rt.alloc();
-    let hop = next_hop(1);
-    let faults = [
-        // ORIGIN is 3.
-        Faulty {
-            attributes: &[&[0x40, 0x01, 0x01, 0x03], BY_65001, &hop, PREF_100],
-            nlri: PREFIX,
-            sub: 6,
-            data: &[0x40, 0x01, 0x01, 0x03],
-        },
-        // ORIGIN stands twice.
-        Faulty {
-            attributes: &[IGP, IGP, BY_65001, &hop, PREF_100],
-            nlri: PREFIX,
-            sub: 1,
-            data: &[],
-        },
-        // NEXT_HOP is missing.
-        Faulty {
-            attributes: &[IGP, BY_65001, PREF_100],
-            nlri: PREFIX,
-            sub: 3,
-            data: &[0x03],
-        },
-        // A prefix has 33 bits.
-        Faulty {
-            attributes: &[IGP, BY_65001, &hop, PREF_100],
-            nlri: &[0x21, 0xcb, 0x00, 0x71, 0x00, 0x00],
-            sub: 10,
-            data: &[],
-        },
-    ];
-    for faulty in &faults {
-        let mut feed = decided(alloc)?;
-        let message = update(alloc, &[], faulty.attributes, faulty.nlri)?;
-        add(&mut feed, b'B', 1, &message)?;
-        // What comes later on the connection is of no account.
-        add(&mut feed, b'B', 1, b"anything")?;
-        add(&mut feed, b'B', 1, &ANNOUNCEMENT)?;
-        add(&mut feed, b'D', 0, &[])?;
-        add(&mut feed, b'Z', 0, &[])?;
-        let (status, written) = replayed(&rt, alloc, feed)?;
-        assert_eq!(rt; status, Status::Done);
-        let mut wanted = told(alloc)?;
-        let answer = notification(alloc, 3, faulty.sub, faulty.data)?;
-        add(&mut wanted, b'B', 1, &answer)?;
-        add(&mut wanted, b'X', 1, &[1, 3, faulty.sub])?;
-        // The routes of the router are gone.
-        add(&mut wanted, b'B', 2, &announcement(3, 100))?;
-        add_summary(&mut wanted, 2, 1, 2)?;
-        assert_eq!(rt; written.as_slice(), wanted.as_slice(), "at {}", faulty.sub);
-    }
+    let origin = [0x40, 0x01, 0x01, 0x03];
+    let faulty = update(
+        alloc,
+        &[],
+        &[&origin, BY_65001, &next_hop(1), PREF_100],
+        PREFIX,
+    )?;
+    let (status, written) = replayed(&rt, alloc, interrupted(alloc, &faulty)?)?;
+    assert_eq!(rt; status, Status::Done);
+    let wanted = answered(alloc, 6, &origin)?;
+    assert_eq!(rt; written.as_slice(), wanted.as_slice());
     Ok(())
+}
+
+#[test]
+fn attribute_that_stands_twice_is_answered_and_ends_the_session(
+    rt: HostRuntime,
+) -> Result<(), Fail> {
+    let alloc = rt.alloc();
+    let faulty = update(
+        alloc,
+        &[],
+        &[IGP, IGP, BY_65001, &next_hop(1), PREF_100],
+        PREFIX,
+    )?;
+    let (status, written) = replayed(&rt, alloc, interrupted(alloc, &faulty)?)?;
+    assert_eq!(rt; status, Status::Done);
+    let wanted = answered(alloc, 1, &[])?;
+    assert_eq!(rt; written.as_slice(), wanted.as_slice());
+    Ok(())
+}
+
+#[test]
+fn missing_attribute_is_answered_and_ends_the_session(rt: HostRuntime) -> Result<(), Fail> {
+    let alloc = rt.alloc();
+    let faulty = update(alloc, &[], &[IGP, BY_65001, PREF_100], PREFIX)?;
+    let (status, written) = replayed(&rt, alloc, interrupted(alloc, &faulty)?)?;
+    assert_eq!(rt; status, Status::Done);
+    let wanted = answered(alloc, 3, &[0x03])?;
+    assert_eq!(rt; written.as_slice(), wanted.as_slice());
+    Ok(())
+}
+
+#[test]
+fn prefix_of_33_bits_is_answered_and_ends_the_session(rt: HostRuntime) -> Result<(), Fail> {
+    let alloc = rt.alloc();
+    let nlri = [0x21, 0xcb, 0x00, 0x71, 0x00, 0x00];
+    let faulty = update(alloc, &[], &[IGP, BY_65001, &next_hop(1), PREF_100], &nlri)?;
+    let (status, written) = replayed(&rt, alloc, interrupted(alloc, &faulty)?)?;
+    assert_eq!(rt; status, Status::Done);
+    let wanted = answered(alloc, 10, &[])?;
+    assert_eq!(rt; written.as_slice(), wanted.as_slice());
+    Ok(())
+}
+
+// Whether a run ends at the fifth record, where octets come from A.
+fn is_refused<R: Threads + Sync>(rt: &R, alloc: Global, octets: &[u8]) -> Result<bool, Fail> {
+    let mut feed = connected(alloc)?;
+    add(&mut feed, b'B', 1, octets)?;
+    add(&mut feed, b'Z', 0, &[])?;
+    let (status, written) = replayed(rt, alloc, feed)?;
+    let why = FeedWhy::BadBody;
+    Ok(status == Status::Feed { number: 5, why } && written.is_empty())
 }
 
 #[test]
 fn octets_that_are_no_whole_update_end_the_run(rt: HostRuntime) -> Result<(), Fail> {
     let alloc = rt.alloc();
-    let mut longer = Vec::from_slice(alloc, &ANNOUNCEMENT)?;
-    longer.extend_from_slice(&ANNOUNCEMENT)?;
-    let mut keepalive = vec![in alloc; 0xff; 16]?;
-    keepalive.extend_from_slice(&[0, 19, 4])?;
-    let mut other_marker = Vec::from_slice(alloc, &ANNOUNCEMENT)?;
+    assert!(rt; is_refused(&rt, alloc, &[])?);
+    assert!(rt; is_refused(&rt, alloc, &ANNOUNCEMENT[..51])?);
+    let mut two = Vec::from_slice(alloc, &ANNOUNCEMENT)?;
+    two.extend_from_slice(&ANNOUNCEMENT)?;
+    assert!(rt; is_refused(&rt, alloc, &two)?);
+    assert!(rt; is_refused(&rt, alloc, &message(alloc, 4, &[])?)?);
+    let mut other_marker = ANNOUNCEMENT;
     other_marker[15] = 0xfe;
-    let bodies = [
-        &[],
-        &ANNOUNCEMENT[..51],
-        longer.as_slice(),
-        keepalive.as_slice(),
-        other_marker.as_slice(),
-    ];
-    for body in bodies {
-        let mut feed = connected(alloc)?;
-        add(&mut feed, b'B', 1, body)?;
-        add(&mut feed, b'Z', 0, &[])?;
-        let (status, written) = replayed(&rt, alloc, feed)?;
-        let why = FeedWhy::BadBody;
-        assert_eq!(rt; status, Status::Feed { number: 5, why });
-        assert!(rt; written.is_empty());
-    }
+    assert!(rt; is_refused(&rt, alloc, &other_marker)?);
     Ok(())
 }

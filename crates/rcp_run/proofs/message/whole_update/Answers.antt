@@ -25,7 +25,7 @@ returns-then-header-ne-UPDATE-clause-exact c =
 pub returns-clause-exact : goal.returns-clause-exact
 returns-clause-exact c = (
   whole c.args.octets.now c.if-octets-lt-HEADER_LEN.false c.in-Ok.ensures.faultless
-  (sym c.in-Ok.ensures.fields.len_is ∙ sym c.from.ensures ∙ c.if-from-octets.false) (sym c.in-Ok.ensures.fields.kind_is ∙ c.if-header-ne-UPDATE.false),
+      (sym c.in-Ok.ensures.fields.len_is ∙ sym c.from.ensures ∙ c.if-from-octets.false) (sym c.in-Ok.ensures.fields.kind_is ∙ c.if-header-ne-UPDATE.false),
   take_all _ (drop 19 c.args.octets.now) (omega (arith, length-drop 19 c.args.octets.now)),
 )
 
