@@ -77,12 +77,7 @@ const FAULTS: [(&str, bool, (u8, u8), &str); 72] = [
     ("50010001", false, (3, 1), ""),
     ("40010100 4002040201fd", false, (3, 1), ""),
     // a type stands twice, be it recognised, sent on or left out
-    (
-        "40010100 4002040201fde9 40010100",
-        false,
-        (3, 1),
-        "",
-    ),
+    ("40010100 4002040201fde9 40010100", false, (3, 1), ""),
     ("c06300 c06300", false, (3, 1), ""),
     ("806300 806300", false, (3, 1), ""),
     // not recognised, and not optional

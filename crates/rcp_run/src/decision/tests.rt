@@ -237,7 +237,11 @@ fn the_costs_from_each_router_are_the_plain_ones(rt: HostRuntime) -> Result<(), 
             let found = cost_rows::costs(alloc, view.graph(), RouterId(root))?;
             assert_eq!(rt; found.len(), plain.len(), "from {root}");
             for (router, cost) in &found {
-                assert_eq!(rt; Some(u128::from(*cost)), cost_to(&plain, *router), "from {root}");
+                assert_eq!(rt;
+                    Some(u128::from(*cost)),
+                    cost_to(&plain, *router),
+                    "from {root}"
+                );
             }
         }
     }
@@ -254,7 +258,11 @@ fn a_view_has_the_plain_costs_between_slots(rt: HostRuntime) -> Result<(), Fail>
             let reached = costs(alloc, view.graph().edges(), member.router)?;
             for to in 0..=4 {
                 let cost = view.cost(Slot(from as u16), Slot(to)).map(u128::from);
-                assert_eq!(rt; cost, cost_at(&members, &reached, Slot(to)), "{from} to {to}");
+                assert_eq!(rt;
+                    cost,
+                    cost_at(&members, &reached, Slot(to)),
+                    "{from} to {to}"
+                );
             }
         }
     }
