@@ -23,8 +23,8 @@ ghost use Rattle.rcp_run.specs.Records.{item_of};
 
 use crate::announcements::{Announcement, announce};
 use crate::costs::{Reached, costs};
-use crate::decision::offer;
 use crate::feed::{Kind, Record};
+use crate::offers::offer;
 use crate::output::{Summary, add_announcement, add_summary, add_withdrawal};
 use crate::prefixes::{add, add_announced, announced};
 use crate::refusal::Refusal;

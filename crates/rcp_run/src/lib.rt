@@ -16,9 +16,9 @@
 
 mod announcements;
 mod costs;
-mod decision;
 mod engine;
 mod feed;
+mod offers;
 mod output;
 mod prefixes;
 mod refusal;

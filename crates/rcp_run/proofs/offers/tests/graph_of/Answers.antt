@@ -1,7 +1,7 @@
 use Rattle.std.proofs.Common.{length, ap, arith}
 use Rattle.rcp_model.specs.Edges.{include_edge}
 use Rattle.rcp_model.proofs.GraphLemmas.{length-include, length-routers}
-use Rattle.rcp_run.proofs.decision.tests.graph_of.Goals as goal
+use Rattle.rcp_run.proofs.offers.tests.graph_of.Goals as goal
 
 pub add-requires-clause-few : goal.add-requires-clause-few
 add-requires-clause-few c =

@@ -1,7 +1,7 @@
 use Rattle.std.proofs.Common.{◌≢◌, ◌∷◌, [], AllPairs, arith}
 use Rattle.std.proofs.lemmas.List.Elements.{All-nil, All-cons}
 use Rattle.std.proofs.lemmas.List.Kept.{AllPairs-cons}
-use Rattle.rcp_run.proofs.decision.tests.members.Goals as goal
+use Rattle.rcp_run.proofs.offers.tests.members.Goals as goal
 
 four : {X : Type 0} (R : X → X → Type 0) (w x y z : X) → R w x → R w y → R w z → R x y → R x z → R y z → AllPairs R (w ∷ x ∷ y ∷ z ∷ [])
 four R w x y z wx wy wz xy xz yz =
