@@ -71,7 +71,7 @@ impl<const N: usize> Table<N> {
         Table { rows }
     }
 
-    /// The row of a code, or None exactly where no row has it.
+    /// The row of a code, or None exactly where no row has it. It is found by halving.
     pub fn find(&self, code: u16) -> Option<&Row>
         ensures row { option_copied result ≡ row_of self.now code }
         ensures found { IfSome result (λ row. row.now.code ≡ code) }

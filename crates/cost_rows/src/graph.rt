@@ -1,3 +1,5 @@
+//! Graphs: the edges of an interior network, in order.
+
 ghost use Rattle.std.specs.Prelude.{◌≡◌, ◌≤◌, ◌↔◌, [], length, insert, slice_get, AllPairs, Contains, IsTrue, Some, IfOk, IfErr, OnOk, OnErr};
 ghost use Rattle.rcp_model.specs.Edges.{include_edge, is_edge_before};
 ghost use Rattle.rcp_model.specs.Graphs.{edges_from, exclude_edge};
@@ -7,7 +9,8 @@ use rcp_model::Edge;
 use std::alloc::Global;
 use std::marker::Model;
 
-/// The edges of an interior network, over at most 2,560 routers. Contracts see the list of the edges.
+/// The edges of an interior network (RFC 2328 section 16.1), over at most 2,560 routers, each of a cost of at most
+/// 65,535. Contracts see the list of the edges.
 #[derive(Debug, Drop)]
 pub struct Graph {
     edges: Vec<Edge>,
@@ -28,7 +31,7 @@ impl Model for Graph {
 impl Graph {
     ghost use Rattle.rcp_model.specs.Graphs.{IsGraph, routers_in, most_graph_routers, highest_cost};
 
-    /// A graph without edges.
+    /// A graph without edges. `NoMemory` comes where there was no room for it.
     pub fn new(alloc: Global) -> Result<Graph, NoMemory>
         ensures { IfOk result (λ graph. graph ≡ []) }
     {
@@ -37,7 +40,7 @@ impl Graph {
         })
     }
 
-    /// A graph with the same edges.
+    /// A graph with the same edges. `NoMemory` comes where there was no room for them.
     pub fn try_clone(&self) -> Result<Graph, NoMemory>
         ensures { IfOk result (λ copy. copy ≡ self.now) }
     {
@@ -46,7 +49,9 @@ impl Graph {
     }
 
     /// Puts an edge in, unless it is there already. The edge costs at most 65,535, and the graph has at most 2,560
-    /// routers afterwards. Where there is no memory the graph stays as it was.
+    /// routers afterwards.
+    ///
+    /// `NoMemory` comes where there was no room for it, and the graph stays as it was. The edges behind it are moved.
     pub fn add(&mut self, edge: Edge) -> Result<(), NoMemory>
         requires few { length (routers_in (include_edge edge self.old)) ≤ most_graph_routers }
         requires cheap { edge.cost ≤ highest_cost }
@@ -56,7 +61,8 @@ impl Graph {
         include(&mut self.edges, edge)
     }
 
-    /// Takes an edge out. False exactly where it isn't there.
+    /// Takes an edge out. False exactly where it isn't there, and the graph then stays as it was. The edges behind it are
+    /// moved.
     pub fn remove(&mut self, edge: Edge) -> bool
         ensures found { IsTrue result ↔ Contains self.old edge }
         ensures after { self.new ≡ exclude_edge edge self.old }
@@ -72,7 +78,7 @@ impl Graph {
         self.edges.as_slice()
     }
 
-    /// The edges that begin at a router, by `to` and `cost`.
+    /// The edges that begin at a router, by `to` and `cost`, found by halving.
     pub fn edges_from(&self, router: RouterId) -> &[Edge]
         ensures edges { result.now ≡ edges_from router self.now }
         ensures kept { IsGraph self.now }

@@ -1,3 +1,5 @@
+//! The routers that a search can come to, by rising ID.
+
 ghost use Rattle.std.specs.Prelude.{◌≡◌, ℕ, ◌≤◌, length, Contains, IfOk};
 ghost use Rattle.std.specs.List.Sorted.{IsStrictlyIncreasing};
 ghost use Rattle.cost_rows.specs.Search.{AreNames, ends_of};

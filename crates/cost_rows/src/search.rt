@@ -1,3 +1,5 @@
+//! The search for the least costs from one router (RFC 2328 section 16.1).
+
 ghost use Rattle.std.specs.Prelude.{◌≡◌, ℕ, ◌≤◌, ◌<◌, ◌+◌, ◌^◌, ◌↔◌, [], length, slice_get, Contains, IsTrue, Some, IfOk, OnOk, IsSomeAnd};
 ghost use Rattle.std.specs.Bool.{OnTrue, OnFalse};
 ghost use Rattle.std.specs.BinaryHeap.{heap_items};
@@ -14,6 +16,7 @@ use std::cmp::Reverse;
 use std::collections::BinaryHeap;
 
 /// The least costs from a router to those that it reaches: a pair for each, by rising ID, its own of cost 0 among them.
+/// The router needn't stand in the graph. `NoMemory` comes where there was no room for the search or the pairs.
 ///
 /// For a graph of V routers and E edges it takes about (V + E) log (V + E) steps: each router's edges are gone over once,
 /// from the nearest router on.

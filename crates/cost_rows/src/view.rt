@@ -1,3 +1,5 @@
+//! Views: the costs between the members of a roster over one graph.
+
 ghost use Rattle.std.specs.Prelude.{◌≡◌, ℕ, ◌<◌, ◌≤◌, length, map, All, AllPairs, Contains, IfOk};
 ghost use Rattle.std.specs.List.{AllZip};
 ghost use Rattle.rcp_model.specs.Maps.{get_at};
@@ -99,6 +101,9 @@ impl View {
     ghost use Rattle.rcp_model.specs.Graphs.{AreMembers};
 
     /// The view of a graph for at most 512 members, whose routers and BGP Identifiers are distinct.
+    ///
+    /// `NoMemory` comes where there was no room for the rows: for M members, V routers and E edges they take about
+    /// M (V + E) log (V + E) steps, and up to M V pairs are kept.
     pub fn build(alloc: Global, members: &[Member], graph: Graph) -> Result<Arc<View>, NoMemory>
         requires { AreMembers members.now }
         ensures { IfOk result (λ view. view.value ≡ record { edges = graph; members = members.now }) }
@@ -117,6 +122,7 @@ impl View {
         )?)
     }
 
+    /// The graph whose edges the costs go over.
     pub fn graph(&self) -> &Graph
         ensures { result.now ≡ self.now.edges }
     {

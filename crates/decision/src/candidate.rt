@@ -1,3 +1,5 @@
+//! Candidates: what is compared of a route.
+
 use rcp_base::{Addr, Slot};
 use rcp_model::Route;
 use std::marker::Model;
@@ -9,10 +11,15 @@ pub struct Candidate {
     pub slot: Slot,
     /// That router's BGP Identifier.
     pub id: Addr,
+    /// The degree of preference, LOCAL_PREF (RFC 4271 section 5.1.5): the highest one goes first.
     pub pref: u32,
+    /// How many ASes AS_PATH counts, each AS_SET as one (section 9.1.2.2 a).
     pub hops: u32,
+    /// ORIGIN: 0 IGP, 1 EGP, 2 INCOMPLETE (section 5.1.1).
     pub origin: u8,
+    /// The AS that the route was learned from, among whose routes alone `med` is compared.
     pub neighbour: u32,
+    /// MULTI_EXIT_DISC, 0 where it is absent (section 5.1.4): the lowest one goes first.
     pub med: u32,
 }
 

@@ -1,3 +1,5 @@
+//! The choice: what the filters leave, and the steps that break a tie.
+
 ghost use Rattle.std.specs.Prelude.{◌≡◌, ◌<◌, ◌↔◌, length, slice_get, Contains, IsTrue, IsNone, IfNone, IfSome, IsSomeAnd, [], if◌then◌else◌};
 ghost use Rattle.std.specs.List.{list_any};
 ghost use Rattle.rcp_model.specs.Control.{slot_cost};
@@ -15,7 +17,8 @@ fn is_beaten(list: &[Candidate], candidate: &Candidate) -> bool
     list.iter().any(|other| goes_before(other, candidate))
 }
 
-/// Whether the candidate at a place is tied: one of those that the four filters leave of the list.
+/// Whether the candidate at a place of the list is tied: one of those that the four filters leave of it (RFC 4271
+/// sections 9.1.1 and 9.1.2.2 a to c). One pass over the list.
 pub fn in_tied(list: &[Candidate], place: usize) -> bool
     requires { place < length list.now }
     ensures { IsSomeAnd (slice_get list.now place) (λ a. IsTrue result ↔ Contains (tied list.now) a) }
@@ -66,10 +69,11 @@ fn nearer_of(best: Option<Rival>, rival: Rival) -> Rival
     }
 }
 
-/// The choice of a router among candidates, by the interior costs from it.
+/// The choice of the router at `slot` among candidates, by the interior costs from it (RFC 4271 section 9.1).
 ///
 /// `None` exactly where the list is empty. Where identifiers are distinct and each candidate is reached, the answer
-/// doesn't depend on the order of the list.
+/// doesn't depend on the order of the list. For N candidates it takes N passes over the list, and asks for at most N
+/// costs.
 pub fn choose<V: Costs>(slot: Slot, list: &[Candidate], view: &V) -> Option<Slot>
     ensures chosen { result ≡ choice slot (slot_cost (V.edges view.now) (V.members view.now) slot) list.now }
     ensures none { IsNone result ↔ (list.now ≡ []) }

@@ -29,11 +29,13 @@ use bgp_fault::{
 use case_table::{Row, Table};
 use std::alloc::Global;
 
-/// Reads the path attributes of an UPDATE (RFC 4271, section 4.3). `nlri` says whether the UPDATE announces prefixes,
-/// and so needs a route.
+/// Reads the path attributes of an UPDATE (RFC 4271, section 4.3): at most 4,073 octets, which is what an UPDATE of
+/// 4,096 has room for. `nlri` says whether the UPDATE announces prefixes, and so needs a route.
 ///
 /// `AttrRefusal::Fault` has the first fault in the order of RFC 4271, section 6.3, its span counted in `bytes`;
 /// `AttrRefusal::NoMemory` comes where there was no room for the attributes.
+///
+/// The octets are gone over once, and only a value that is sent on is kept.
 pub fn read(alloc: Global, bytes: &[u8], nlri: bool) -> Result<Attrs, AttrRefusal>
     requires { length bytes.now ≤ 4073 }
     ensures faultless { OnOk result (attributes_fault number_width nlri bytes.now ≡ None) }

@@ -1,6 +1,6 @@
 //! The route that attributes make: what the decision process reads of them (RFC 4271, section 9.1).
 
-ghost use Rattle.std.specs.Prelude.{◌≡◌, [], Some, IsTrue, IfOk, is_some, unwrap_or};
+ghost use Rattle.std.specs.Prelude.{◌≡◌, [], Some, IsTrue, IfOk, is_some, nat_lt, unwrap_or};
 ghost use Rattle.std.specs.Int.{w8, from_be_bytes};
 ghost use Rattle.rcp_model.specs.Attributes as model;
 ghost use Rattle.rcp_model.specs.Attributes.{value_of};
@@ -22,7 +22,9 @@ use std::sync::Arc;
 /// The most octets of attributes that leave room for a prefix in an UPDATE of 4,096 octets.
 const MOST_OCTETS: usize = 4068;
 
-/// The route of the attributes in an AS, with the octets of the attributes as they are sent on.
+/// The route of the attributes in the AS `local_as`, with the octets of the attributes as they are sent on
+/// (RFC 4271, sections 5 and 9.1). It is long where those have more than 4,068 octets, and looped where the AS stands in
+/// its path.
 ///
 /// The attributes need ORIGIN, AS_PATH and NEXT_HOP, which `has_route` tells. `NoMemory` comes where there was no room
 /// for the octets.
@@ -41,10 +43,17 @@ pub fn route(alloc: Global, attrs: &Attrs, local_as: u32) -> Result<Route, NoMem
         neighbour: neighbour(path, local_as),
         med: multi_exit_disc(values),
         looped: passes(path, local_as),
-        long: len > MOST_OCTETS,
+        long: is_long(len),
         next_hop: Addr(next_hop(values)),
         attrs: shared(alloc, &octets[..len])?,
     })
+}
+
+/// Whether so many octets leave no room for a prefix.
+fn is_long(len: usize) -> bool
+    ensures { result ≡ nat_lt 4068 len }
+{
+    len > MOST_OCTETS
 }
 
 /// Octets that routes share.

@@ -11,8 +11,11 @@ use std::test::Fail;
 const LIST: &str = "40010100 4002040201fde9 4003040a000001 40050400000064";
 
 // Lists, and what is written of each.
-const WRITTEN: [(&str, &str); 14] = [
+const WRITTEN: [(&str, &str); 16] = [
     (LIST, LIST),
+    // the first and the last address of NEXT_HOP
+    ("40030401000000", "40030401000000 40050400000064"),
+    ("400304dfffffff", "400304dfffffff 40050400000064"),
     // MULTI_EXIT_DISC stands before LOCAL_PREF
     (
         "40010100 4002040201fdea 4003040a000004 80040400000032 40050400000064",
@@ -64,102 +67,108 @@ fn a_list_is_written_in_its_one_form(rt: HostRuntime) -> Result<(), Fail> {
     Ok(())
 }
 
-// Lists of an UPDATE without NLRI, the subcode of the first fault, and its data.
-const FAULTS: [(&str, u8, &str); 54] = [
+// Lists, whether the UPDATE has NLRI, and of the first fault its code, its subcode and its data.
+const FAULTS: [(&str, bool, (u8, u8), &str); 72] = [
     // an attribute runs past the end: in its header, in its value, behind another
-    ("40", 1, ""),
-    ("4001", 1, ""),
-    ("400101", 1, ""),
-    ("500100", 1, ""),
-    ("50010001", 1, ""),
-    ("40010100 4002040201fd", 1, ""),
+    ("40", false, (3, 1), ""),
+    ("4001", false, (3, 1), ""),
+    ("400101", false, (3, 1), ""),
+    ("500100", false, (3, 1), ""),
+    ("50010001", false, (3, 1), ""),
+    ("40010100 4002040201fd", false, (3, 1), ""),
     // a type stands twice, be it recognised, sent on or left out
-    ("40010100 4002040201fde9 40010100", 1, ""),
-    ("c06300 c06300", 1, ""),
-    ("806300 806300", 1, ""),
+    ("40010100 4002040201fde9 40010100", false, (3, 1), ""),
+    ("c06300 c06300", false, (3, 1), ""),
+    ("806300 806300", false, (3, 1), ""),
     // not recognised, and not optional
-    ("406300", 2, "406300"),
-    ("40010100 5063000101", 2, "5063000101"),
-    ("00000101", 2, "00000101"),
+    ("406300", false, (3, 2), "406300"),
+    ("40010100 5063000101", false, (3, 2), "5063000101"),
+    ("00000101", false, (3, 2), "00000101"),
+    // NLRI without ORIGIN, AS_PATH or NEXT_HOP
+    ("", true, (3, 3), "01"),
+    ("4002040201fde9 4003040a000001", true, (3, 3), "01"),
+    ("40010100 4003040a000001", true, (3, 3), "02"),
+    ("40010100 4002040201fde9", true, (3, 3), "03"),
     // other flags
-    ("c0010100", 4, "c0010100"),
-    ("8002040201fde9", 4, "8002040201fde9"),
-    ("0003040a000001", 4, "0003040a000001"),
-    ("c0040400000032", 4, "c0040400000032"),
-    ("80050400000064", 4, "80050400000064"),
-    ("c00600", 4, "c00600"),
-    ("400706fde90a000001", 4, "400706fde90a000001"),
-    ("80080400000001", 4, "80080400000001"),
-    ("40010100 d00400 0400000032", 4, "d004000400000032"),
+    ("c0010100", false, (3, 4), "c0010100"),
+    ("8002040201fde9", false, (3, 4), "8002040201fde9"),
+    ("0003040a000001", false, (3, 4), "0003040a000001"),
+    ("c0040400000032", false, (3, 4), "c0040400000032"),
+    ("80050400000064", false, (3, 4), "80050400000064"),
+    ("c00600", false, (3, 4), "c00600"),
+    ("400706fde90a000001", false, (3, 4), "400706fde90a000001"),
+    ("80080400000001", false, (3, 4), "80080400000001"),
+    (
+        "40010100 d00400 0400000032",
+        false,
+        (3, 4),
+        "d004000400000032",
+    ),
     // another length
-    ("400100", 5, "400100"),
-    ("4001020000", 5, "4001020000"),
-    ("4003030a0000", 5, "4003030a0000"),
-    ("4003050a00000100", 5, "4003050a00000100"),
-    ("800400", 5, "800400"),
-    ("4005020064", 5, "4005020064"),
-    ("40060100", 5, "40060100"),
-    ("c00705fde90a0000", 5, "c00705fde90a0000"),
+    ("400100", false, (3, 5), "400100"),
+    ("4001020000", false, (3, 5), "4001020000"),
+    ("4003030a0000", false, (3, 5), "4003030a0000"),
+    ("4003050a00000100", false, (3, 5), "4003050a00000100"),
+    ("800400", false, (3, 5), "800400"),
+    ("4005020064", false, (3, 5), "4005020064"),
+    ("40060100", false, (3, 5), "40060100"),
+    ("c00705fde90a0000", false, (3, 5), "c00705fde90a0000"),
     // another ORIGIN
-    ("40010103", 6, "40010103"),
-    ("500100 01ff", 6, "50010001ff"),
+    ("40010103", false, (3, 6), "40010103"),
+    ("500100 01ff", false, (3, 6), "50010001ff"),
     // another NEXT_HOP: 0.0.0.1, 224.0.0.1, 255.255.255.255
-    ("40030400000001", 8, "40030400000001"),
-    ("400304e0000001", 8, "400304e0000001"),
-    ("400304ffffffff", 8, "400304ffffffff"),
+    ("40030400000001", false, (3, 8), "40030400000001"),
+    ("400304e0000001", false, (3, 8), "400304e0000001"),
+    ("400304ffffffff", false, (3, 8), "400304ffffffff"),
     // COMMUNITIES that aren't whole
-    ("c00803000000", 9, "c00803000000"),
-    ("e008050000000000", 9, "e008050000000000"),
+    ("c00803000000", false, (3, 9), "c00803000000"),
+    ("e008050000000000", false, (3, 9), "e008050000000000"),
     // a path that ends within a segment, has an empty one, or one of another kind
-    ("40020102", 11, ""),
-    ("4002030201fd", 11, ""),
-    ("4002050202fde9fd", 11, ""),
-    ("4002020200", 11, ""),
-    ("4002060201fde90200", 11, ""),
-    ("4002040301fde9", 11, ""),
-    ("4002040001fde9", 11, ""),
-    // of two faults: whole before all, a type that stands twice before its flags and its value
-    ("c0010203", 1, ""),
-    ("406301", 1, ""),
-    ("40010100 c0010100", 1, ""),
-    ("40010100 40010103", 1, ""),
+    ("40020102", false, (3, 11), ""),
+    ("4002030201fd", false, (3, 11), ""),
+    ("4002050202fde9fd", false, (3, 11), ""),
+    ("4002020200", false, (3, 11), ""),
+    ("4002060201fde90200", false, (3, 11), ""),
+    ("4002040301fde9", false, (3, 11), ""),
+    ("4002040001fde9", false, (3, 11), ""),
+    // of two faults, whole before all: before the flags, the length, the value, and what isn't recognised
+    ("c0010203", false, (3, 1), ""),
+    ("40010203", false, (3, 1), ""),
+    ("400304e00000", false, (3, 1), ""),
+    ("406301", false, (3, 1), ""),
+    // a type that stands twice before its flags, its length, its value, and what isn't recognised
+    ("40010100 c0010100", false, (3, 1), ""),
+    ("40010100 400100", false, (3, 1), ""),
+    ("40010100 40010103", false, (3, 1), ""),
+    ("c06300 406300", false, (3, 1), ""),
     // flags before length, length before value, flags before value
-    ("c001020303", 4, "c001020303"),
-    ("4001020303", 5, "4001020303"),
-    ("400303e00000", 5, "400303e00000"),
-    ("c00304e0000001", 4, "c00304e0000001"),
-    ("c0020403 01fde9", 4, "c002040301fde9"),
-    ("800803000000", 4, "800803000000"),
+    ("c001020303", false, (3, 4), "c001020303"),
+    ("4001020303", false, (3, 5), "4001020303"),
+    ("400303e00000", false, (3, 5), "400303e00000"),
+    ("c0010103", false, (3, 4), "c0010103"),
+    ("c00304e0000001", false, (3, 4), "c00304e0000001"),
+    ("c0020403 01fde9", false, (3, 4), "c002040301fde9"),
+    ("800803000000", false, (3, 4), "800803000000"),
     // an attribute before the next
-    ("40010103 406300 40", 6, "40010103"),
+    ("40010103 406300 40", false, (3, 6), "40010103"),
+    ("406300 40010103", false, (3, 2), "406300"),
+    ("4002020200 c0010100", false, (3, 11), ""),
+    // what is there before what is missing, and of what is missing the lowest type
+    ("4002040201fde9 40", true, (3, 1), ""),
+    ("406300", true, (3, 2), "406300"),
+    ("40010103", true, (3, 6), "40010103"),
+    ("c00803000000", true, (3, 9), "c00803000000"),
+    ("4003040a000001", true, (3, 3), "01"),
+    ("40010100", true, (3, 3), "02"),
+    ("c06300 40010100", true, (3, 3), "02"),
 ];
 
 #[test]
 fn the_first_fault_is_told(rt: HostRuntime) -> Result<(), Fail> {
     let alloc = rt.alloc();
-    for (list, sub, data) in FAULTS {
-        let told = first_fault(alloc, list, false)?;
-        assert_eq!(rt; (told.code, told.sub), (3, sub), "{list}");
-        let data = octets(alloc, data)?;
-        assert_eq!(rt; told.data.as_slice(), data.as_slice(), "{list}");
-    }
-    Ok(())
-}
-
-#[test]
-fn what_an_announcement_lacks_is_told_after_all_else(rt: HostRuntime) -> Result<(), Fail> {
-    let alloc = rt.alloc();
-    for (list, sub, data) in [
-        ("", 3, "01"),
-        ("4002040201fde9 4003040a000001", 3, "01"),
-        ("40010100", 3, "02"),
-        ("40010100 4003040a000001", 3, "02"),
-        ("40010100 4002040201fde9", 3, "03"),
-        ("4002040201fde9 40", 1, ""),
-        ("406300", 2, "406300"),
-    ] {
-        let told = first_fault(alloc, list, true)?;
-        assert_eq!(rt; (told.code, told.sub), (3, sub), "{list}");
+    for (list, nlri, number, data) in FAULTS {
+        let told = first_fault(alloc, list, nlri)?;
+        assert_eq!(rt; (told.code, told.sub), number, "{list}");
         let data = octets(alloc, data)?;
         assert_eq!(rt; told.data.as_slice(), data.as_slice(), "{list}");
     }
@@ -207,14 +216,38 @@ fn another_length_is_told_with_the_whole_attribute(rt: HostRuntime) -> Result<()
     Ok(())
 }
 
+// Of an attribute behind LIST, or behind LIST without LOCAL_PREF, its header, and how many zeros make its value: the
+// octets that are written of both, and whether the route is long.
+const LONG: [(&str, &str, usize, usize, bool); 5] = [
+    (LIST, "d0630fc7", 4039, 4068, false),
+    (LIST, "d0630fc8", 4040, 4069, true),
+    // the written octets count, LOCAL_PREF among them
+    (
+        "40010100 4002040201fde9 4003040a000001",
+        "d0630fc7",
+        4039,
+        4068,
+        false,
+    ),
+    (
+        "40010100 4002040201fde9 4003040a000001",
+        "d0630fc8",
+        4040,
+        4069,
+        true,
+    ),
+    // the most octets that an UPDATE has room for
+    (LIST, "d0630fcc", 4044, 4073, true),
+];
+
 #[test]
 fn more_than_4068_octets_are_long(rt: HostRuntime) -> Result<(), Fail> {
     let alloc = rt.alloc();
-    for (head, len, long) in [("d0630fc7", 4039, false), ("d0630fc8", 4040, true)] {
-        let mut list = octets(alloc, LIST)?;
+    for (front, head, len, written, long) in LONG {
+        let mut list = octets(alloc, front)?;
         list.extend_from_slice(&with_zeros(alloc, head, len)?)?;
         let route = route_in_65000(alloc, &list)?;
-        assert_eq!(rt; route.octets().len(), 29 + len);
+        assert_eq!(rt; route.octets().len(), written);
         assert_eq!(rt; route.long, long);
     }
     Ok(())

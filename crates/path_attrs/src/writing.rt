@@ -13,9 +13,9 @@ use crate::value::Value;
 /// LOCAL_PREF where it is absent.
 pub const DEFAULT_PREF: u32 = 100;
 
-/// Writes the attributes in their canonical form, and tells how many octets they have, at most 4,080. Types rise,
-/// LOCAL_PREF is always there, 100 where it was absent, and a length has one octet where the value has at most 255
-/// octets (RFC 4271, section 4.3).
+/// Writes the attributes in their canonical form to the front of `out`, and tells how many octets they have, at most
+/// 4,080. Types rise, LOCAL_PREF is always there, 100 where it was absent, and a length has one octet where the value has
+/// at most 255 octets (RFC 4271, section 4.3). One pass, which takes no memory.
 pub fn write(attrs: &Attrs, out: &mut [u8; 8192]) -> usize
     ensures octets { take result out.new ≡ canonical_octets attrs.now }
     ensures len { result ≡ length (canonical_octets attrs.now) }

@@ -24,8 +24,8 @@ mod hearing;
 
 use crate::announcements::Announcement;
 use crate::costs::{Reached, costs};
-use crate::decision::offer;
 use crate::feed::{Kind, Record};
+use crate::offers::offer;
 use crate::output::{Summary, add_announcement, add_summary, add_withdrawal};
 use crate::prefixes::{add_announced, announced};
 use crate::refusal::Refusal;

@@ -16,10 +16,10 @@
 
 mod announcements;
 mod costs;
-mod decision;
 mod engine;
 mod feed;
 mod message;
+mod offers;
 mod output;
 mod prefixes;
 mod refusal;

@@ -27,7 +27,7 @@ returns c =
     let neighbour : c.neighbour.result ≡ neighbour_of c.args.local_as (path_of number_width c.args.attrs.now) = rw path at c.neighbour.ensures in
     let med : c.multi_exit_disc.result ≡ number_or 0 (value_of MULTI_EXIT_DISC c.args.attrs.now) = rw shown at c.multi_exit_disc.ensures in
     let looped : c.passes.result ≡ list_any (λ segment. list_any (λ n. n == c.args.local_as) segment.numbers) (path_of number_width c.args.attrs.now) = rw path at c.passes.ensures in
-    let long : ltb 4068 c.write-len.result ≡ is_long (canonical_octets c.args.attrs.now) = ap (ltb 4068) c.write-len.ensures.len in
+    let long : c.is_long.result ≡ is_long (canonical_octets c.args.attrs.now) = c.is_long.ensures ∙ ap (ltb 4068) c.write-len.ensures.len in
     let next_hop : c.next_hop.result ≡ number_or 0 (value_of NEXT_HOP c.args.attrs.now) = rw shown at c.next_hop.ensures in
     let octets : c.in_ok-shared.field-0.value ≡ canonical_octets c.args.attrs.now = c.in_ok-shared.ensures ∙ c.write-len.ensures.octets in
     rw (pref, hops, origin, neighbour, med, looped, long, next_hop, octets) refl
@@ -39,5 +39,5 @@ invariant_of-result c =
     record {
       canonical_attrs = rw octets (canonical_octets_again c.args.attrs.now short);
       complete = rw octets (has_route_again c.args.attrs.now short ∙ c.requires);
-      long_is = rw octets (ap (ltb 4068) c.write-len.ensures.len);
+      long_is = rw octets (c.is_long.ensures ∙ ap (ltb 4068) c.write-len.ensures.len);
     }

@@ -1,6 +1,6 @@
 use Rattle.std.proofs.Common.{◌∙◌}
 use Rattle.rcp_run.proofs.DecisionLemmas.{cost_none, cost_some}
-use Rattle.rcp_run.proofs.decision.cost_at.Goals as goal
+use Rattle.rcp_run.proofs.offers.cost_at.Goals as goal
 
 pub returns-in_err-member : goal.returns-in_err-member
 returns-in_err-member c =

@@ -349,3 +349,6 @@ fn cost_at(members: &[Member], reached: &[Reached], slot: Slot) -> Option<u128>
     let member = members.get(usize::from(slot.0))?;
     cost_to(reached, member.router)
 }
+
+#[cfg(test)]
+mod tests;

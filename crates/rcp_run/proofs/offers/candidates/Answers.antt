@@ -5,10 +5,10 @@ use Rattle.rcp_model.specs.Control.{candidates_from}
 use Rattle.rcp_model.specs.Meaning.{domain_of}
 use Rattle.rcp_run.specs.Rosters.{roster_in}
 use Rattle.rcp_run.specs.State.{announcements_in, costs_in}
-use Rattle.rcp_run.specs.declared.decision.Candidate.{Candidate}
+use Rattle.rcp_run.specs.declared.offers.Candidate.{Candidate}
 use Rattle.rcp_run.proofs.DecisionLemmas.{passed_none, passed_some}
-use Rattle.rcp_run.proofs.decision.candidates.Goals as goal
-use Rattle.rcp_run.proofs.decision.candidates.Goals.{in-Some+in_ok-push, in_default}
+use Rattle.rcp_run.proofs.offers.candidates.Goals as goal
+use Rattle.rcp_run.proofs.offers.candidates.Goals.{in-Some+in_ok-push, in_default}
 
 pub loop-place-preserved : goal.loop-place-preserved
 loop-place-preserved c =

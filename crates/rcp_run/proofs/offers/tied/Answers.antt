@@ -1,7 +1,7 @@
 use Rattle.std.proofs.Common.{◌≡◌, ◌∙◌, IfOk, Ok, Err}
 use Rattle.rcp_model.specs.Decision.{unbeaten, has_lower_exit, tied}
 use Rattle.rcp_run.proofs.DecisionLemmas.{tied_from}
-use Rattle.rcp_run.proofs.decision.tied.Goals as goal
+use Rattle.rcp_run.proofs.offers.tied.Goals as goal
 
 pub returns : goal.returns
 returns c =

@@ -2,7 +2,7 @@ use Rattle.std.proofs.Common.{sym, ◌∙◌, ap, List, ℕ, Option, Bor, option
 use Rattle.std.specs.Prelude.{Some}
 use Rattle.rcp_run.specs.declared.announcements.Announcement.{Announcement}
 use Rattle.rcp_run.proofs.EntryLemmas.{announced-entry}
-use Rattle.rcp_run.proofs.decision.octets_of.Goals as goal
+use Rattle.rcp_run.proofs.offers.octets_of.Goals as goal
 
 pub returns-in_err-entry : goal.returns-in_err-entry
 returns-in_err-entry c =

@@ -2,7 +2,7 @@ use Rattle.std.proofs.Common.{◌≡◌, sym, ◌∙◌, ap, cond, Bool, true, f
 use Rattle.std.specs.Prelude.{Some, None}
 use Rattle.rcp_model.specs.Decision.{contender}
 use Rattle.rcp_run.proofs.DecisionLemmas.{no_contender, usable_contender}
-use Rattle.rcp_run.proofs.decision.candidate_at.Goals as goal
+use Rattle.rcp_run.proofs.offers.candidate_at.Goals as goal
 
 pub returns-in_err-entry : goal.returns-in_err-entry
 returns-in_err-entry c domain kept =

@@ -3,7 +3,7 @@ use Rattle.std.specs.Prelude.{Some}
 use Rattle.rcp_model.specs.Decision.{Contender}
 use Rattle.rcp_run.specs.State.{costs_in}
 use Rattle.rcp_run.proofs.DecisionLemmas.{nearer_step, nearest_all}
-use Rattle.rcp_run.proofs.decision.nearest.Goals as goal
+use Rattle.rcp_run.proofs.offers.nearest.Goals as goal
 
 pub loop-one-preserved : goal.loop-one-preserved
 loop-one-preserved c =

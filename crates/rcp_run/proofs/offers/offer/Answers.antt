@@ -8,7 +8,7 @@ use Rattle.rcp_model.specs.Meaning.{domain_of}
 use Rattle.rcp_run.specs.Rosters.{roster_in}
 use Rattle.rcp_run.specs.State.{announcements_in, costs_in, offers_to}
 use Rattle.rcp_run.proofs.DecisionLemmas.{chosen, short_if}
-use Rattle.rcp_run.proofs.decision.offer.Goals as goal
+use Rattle.rcp_run.proofs.offers.offer.Goals as goal
 
 offered : (c : goal.After-drop-list-3) → option_map (λ (octets : Bor (List ℕ)). octets.now) c.octets_unless_own.result ≡ offers_to c.args.roster.now c.args.announcements.now c.args.slot c.args.prefix
 offered c =

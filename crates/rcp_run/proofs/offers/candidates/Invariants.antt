@@ -4,7 +4,7 @@ use Rattle.rcp_model.specs.Control.{candidates_from}
 use Rattle.rcp_model.specs.Meaning.{domain_of}
 use Rattle.rcp_run.specs.Rosters.{roster_in}
 use Rattle.rcp_run.specs.State.{announcements_in, costs_in}
-use Rattle.rcp_run.proofs.decision.candidates.Given as goal
+use Rattle.rcp_run.proofs.offers.candidates.Given as goal
 
 abbrev pub invariant-loop-place : goal.invariant-loop-place
 invariant-loop-place l =
