@@ -58,7 +58,7 @@ answer_by now lsa found count = elim found [
   | None ↦ cond (leb 3600 lsa.header.age) Flushed (cond (leb 2048 count) Dropped Newer)
 ]
 
-abbrev state_after : ℕ → RouterLsa → LinkState → Installation → LinkState
+abbrev pub state_after : ℕ → RouterLsa → LinkState → Installation → LinkState
 state_after now lsa state answer = elim answer [
   | Newer ↦ record { routers = put_at same_number lsa.router (record { lsa = lsa; since = now }) state.routers }
   | Flushed ↦ record { routers = without (same_number lsa.router) state.routers }
@@ -116,7 +116,7 @@ holds-still now lsa routers state kept holds answer still is = by_answer answer 
 -- ---- moments
 
 -- whether an instance is left at a moment
-abbrev is_young : ℕ → Kept → Bool
+abbrev pub is_young : ℕ → Kept → Bool
 is_young now kept = nat_lt (header_at now kept).age 3600
 
 module _ (now : ℕ) (old new : List (ℕ × Kept)) (kept : IsKept old) (left : new ≡ filter (λ entry. nat_lt (header_at now entry.1).age 3600) old) where

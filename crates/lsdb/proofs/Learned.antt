@@ -77,7 +77,7 @@ module _ (state : LinkState) (once : IsOnce state.routers) (own : (router : ℕ)
       let router : entry.1.lsa.router ≡ entry.0 = subst (λ (f : Option Kept). IfSome f (λ kept. kept.lsa.router ≡ entry.0)) found (own entry.0) in
       subst (λ k. kept_of k state ≡ Some entry.1) (sym router) found
 
-  told-learned : (edge : Edge) → Contains (learned state) edge → IsTold state.routers edge
+  pub told-learned : (edge : Edge) → Contains (learned state) edge → IsTold state.routers edge
   told-learned edge member =
       let outer = member_of_flat (λ (u : ℕ × Kept). flat_map (λ (v : ℕ × Kept). two_way u.1 v.1) state.routers) state.routers edge member in
       let inner = member_of_flat (λ (v : ℕ × Kept). two_way outer.0.1 v.1) state.routers edge outer.2 in
@@ -89,7 +89,7 @@ module _ (state : LinkState) (once : IsOnce state.routers) (own : (router : ℕ)
         back = ap (λ (f : Option Kept). is_some (metric_of edge.to edge.from f)) v ∙ subst (λ k. is_some (metric_to k inner.0.1.lsa.links) ≡ true) (sym parts.0) parts.3;
       }
 
-  learned-told : (edge : Edge) → IsTold state.routers edge → Contains (learned state) edge
+  pub learned-told : (edge : Edge) → IsTold state.routers edge → Contains (learned state) edge
   learned-told edge told = by_found (kept_of edge.from state) refl (kept_of edge.to state) refl told.there told.back where
     router_of : (k : ℕ) (kept : Kept) → kept_of k state ≡ Some kept → kept.lsa.router ≡ k
     router_of k kept found = subst (λ (f : Option Kept). IfSome f (λ kept. kept.lsa.router ≡ k)) found (own k)

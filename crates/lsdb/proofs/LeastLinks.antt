@@ -35,7 +35,7 @@ module _ (from to : ℕ) where
       by_cases (inr same) = Contains-tail edge edges (edge_of from to c) (later c (ap Some same))
     at_test false is rest later found = Contains-tail edge edges (edge_of from to c) (later c found)
 
-  least-le : (edges : List Edge) (d : ℕ) → Contains edges (edge_of from to d) → IsSomeAnd (least_between from to edges) (λ c. c ≤ d)
+  pub least-le : (edges : List Edge) (d : ℕ) → Contains edges (edge_of from to d) → IsSomeAnd (least_between from to edges) (λ c. c ≤ d)
   least-le [] d member = absurd (Contains-none (edge_of from to d) member)
   least-le (edge ∷ edges) d member = by_cases (Contains-cases edge edges (edge_of from to d) member) (least-le edges d) where
     at_rest : (rest : Option ℕ) → IsSomeAnd rest (λ c. c ≤ d) → (t : Bool) → IsSomeAnd (cond t (Some (least edge.cost rest)) rest) (λ c. c ≤ d)
@@ -92,7 +92,7 @@ module _ (from to : ℕ) where
     at_test true rest = ap (λ r. Some (least x.cost r)) rest ∙ joined-more x.cost (least_between from to xs) (least_between from to ys)
     at_test false rest = rest
 
-  least-links : (links : List RouterLink) → least_between from to (links_from from links) ≡ metric_to to links
+  pub least-links : (links : List RouterLink) → least_between from to (links_from from links) ≡ metric_to to links
   least-links [] = refl
   least-links (link ∷ links) = at_test (link.kind == 1) (least-links links) where
     at_test : (t : Bool) → least_between from to (links_from from links) ≡ metric_to to links

@@ -6,3 +6,4 @@ pub mod LeastLinks
 pub mod Places
 pub mod Collecting
 pub mod Learned
+pub mod ListedLinks

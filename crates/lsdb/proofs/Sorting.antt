@@ -79,15 +79,15 @@ dedup-member (x ∷ edges) a member = dedup_from-member x edges a (Contains-case
 
 -- ---- the one rising list of some edges
 
-rising-rising : (edges : List Edge) → IsRising (rising_edges edges)
+pub rising-rising : (edges : List Edge) → IsRising (rising_edges edges)
 rising-rising [] = λ i j d less within. absurd (omega arith)
 rising-rising (a ∷ edges) = rising-include a (rising_edges edges) (rising-rising edges)
 
-rising-member : (edges : List Edge) (a : Edge) → Contains edges a → Contains (rising_edges edges) a
+pub rising-member : (edges : List Edge) (a : Edge) → Contains edges a → Contains (rising_edges edges) a
 rising-member [] a member = absurd (Contains-none a member)
 rising-member (x ∷ edges) a member = include-member x (rising_edges edges) a (elim (Contains-cases x edges a member) [ inl same ↦ inl same | inr later ↦ inr (rising-member edges a later) ])
 
-member_of_rising : (edges : List Edge) (a : Edge) → Contains (rising_edges edges) a → Contains edges a
+pub member_of_rising : (edges : List Edge) (a : Edge) → Contains (rising_edges edges) a → Contains edges a
 member_of_rising [] a member = absurd (Contains-none a member)
 member_of_rising (x ∷ edges) a member = elim (member_of_include x (rising_edges edges) a member) [
   | inl same ↦ subst (λ e. Contains (x ∷ edges) e) same (Contains-head x edges)

@@ -83,7 +83,7 @@ impl Lsdb {
     }
 
     /// Tells the database the moment, in seconds, which isn't below an earlier one: each instance whose age has reached
-    /// MaxAge goes (RFC 2328 section 14). True exactly where one went.
+    /// MaxAge goes (RFC 2328 section 14). True exactly where one went. It goes over all instances, and takes no memory.
     pub fn clock(&mut self, now: u64) -> bool
         requires { self.old.moment ≤ now }
         ensures after { (state : LinkState) → Holds self.old.state state → Holds self.new.state (aged now state) }
@@ -100,7 +100,7 @@ impl Lsdb {
     /// The point-to-point links that both ends list, each from either end with the least metric of parallel ones there,
     /// and the fixed edges besides (RFC 2328 section 16.1): by `from`, `to` and `cost`, each once.
     ///
-    /// For E links and fixed edges in all it takes about E log E steps.
+    /// `NoMemory` where there is no room for them. For E links and fixed edges in all it takes about E log E steps.
     pub fn edges(&self, fixed: &[Edge]) -> Result<Vec<Edge>, NoMemory>
         ensures { IfOk result (λ edges. (state : LinkState) → Holds self.now.state state →
             edges.items ≡ edges_of state fixed.now) }

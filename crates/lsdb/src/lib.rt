@@ -5,9 +5,10 @@
 //! the last moment that it was told. A caller may rely on this:
 //!
 //! - `install` answers which of two instances is the more recent one exactly as section 13.1 says, and keeps it.
-//! - An instance is gone from the moment on at which its age reaches MaxAge.
+//! - `clock` removes exactly the instances whose age has reached MaxAge.
 //! - `edges` gives exactly the point-to-point links that both ends list, each with the least metric of parallel ones, and
-//!   the fixed edges, in order, each once.
+//!   the fixed edges, in order, each once. `edges_are_two_way` says so of the links themselves.
+//! - Databases that hold the same link state give the same answers and edges.
 //!
 //! ```text
 //! let mut lsdb = Lsdb::new(alloc);
@@ -19,10 +20,12 @@
 
 mod database;
 mod instance;
+mod laws;
 mod links;
 mod recency;
 
 pub use database::Lsdb;
+pub use laws::{edges_are_two_way, one_instance_of_each_router, one_is_more_recent};
 pub use recency::Installed;
 
 #[cfg(test)]
