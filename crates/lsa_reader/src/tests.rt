@@ -115,6 +115,37 @@ fn each_fault_comes_in_its_order(rt: HostRuntime) {
     assert_eq!(rt; answer(alloc, 7, 2, [245, 31], 40), owner);
 }
 
+#[test]
+fn of_two_faults_the_first_is_told(rt: HostRuntime) {
+    // The last octet of the link state ID, the count of links, the checksum, and how many octets there are. The
+    // advertising router is 10.0.0.1, and there is one link.
+    let rows = [
+        (1, 1, [184, 131], 23, LsaFault::Short),
+        (1, 2, [190, 124], 23, LsaFault::Short),
+        (2, 1, [174, 140], 23, LsaFault::Short),
+        (1, 2, [255, 22], 40, LsaFault::Checksum),
+        (2, 1, [255, 22], 40, LsaFault::Checksum),
+        (1, 1, [255, 22], 24, LsaFault::Checksum),
+        (2, 2, [251, 24], 40, LsaFault::Links),
+        (2, 1, [174, 140], 24, LsaFault::Links),
+    ];
+    for (id, count, checksum, len, want) in rows {
+        let mut octets = WITH_TOS;
+        octets[7] = id;
+        octets[23] = count;
+        let [high, low] = checksum;
+        octets[16] = high;
+        octets[17] = low;
+        let (front, _) = octets.split_at(len.min(40));
+        let found = read(rt.alloc(), front).err();
+        assert_eq!(rt;
+            found,
+            Some(LsaRefusal::Fault(want)),
+            "{id}, {count}, {len}"
+        );
+    }
+}
+
 // The lengths and types of a packet's LSAs, and the fault where there is one.
 fn walk(alloc: Global, packet: &[u8]) -> Result<(Vec<(usize, u8)>, Option<LsaFault>), Fail>
     requires { 28 ≤ length packet.now }

@@ -1,0 +1,4 @@
+pub mod Answers
+pub mod Databases
+pub mod Links
+pub mod TwoWay

@@ -1,0 +1,32 @@
+//! The link-state database (RFC 2328 sections 13.1, 14 and 16.1): of each router of an area the most recent router LSA,
+//! and the edges that these tell of.
+//!
+//! An [`Lsdb`] means a link state, which is a map from routers to instances with the moments of their installation, and
+//! the last moment that it was told. A caller may rely on this:
+//!
+//! - `install` answers which of two instances is the more recent one exactly as section 13.1 says, and keeps it.
+//! - `clock` removes exactly the instances whose age has reached MaxAge.
+//! - `edges` gives exactly the point-to-point links that both ends list, each with the least metric of parallel ones, and
+//!   the fixed edges, in order, each once. `edges_are_two_way` says so of the links themselves.
+//! - Databases that hold the same link state give the same answers and edges.
+//!
+//! ```text
+//! let mut lsdb = Lsdb::new(alloc);
+//! let answer = lsdb.install(lsa, 0)?;
+//! let gone = lsdb.clock(1);
+//! let edges = lsdb.edges(&fixed)?;
+//! ```
+#![tactic(auto)]
+
+mod database;
+mod instance;
+mod laws;
+mod links;
+mod recency;
+
+pub use database::Lsdb;
+pub use laws::{edges_are_two_way, one_instance_of_each_router, one_is_more_recent};
+pub use recency::Installed;
+
+#[cfg(test)]
+mod tests;
