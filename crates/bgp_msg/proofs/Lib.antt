@@ -5,3 +5,5 @@ pub mod FourAttributes
 pub mod Sequences
 pub mod Plain
 pub mod Whole
+pub mod Sections
+pub mod Walks

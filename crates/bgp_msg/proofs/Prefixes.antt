@@ -35,7 +35,7 @@ prefix_at-take (len ∷ rest) p n e =
 abbrev first_of : List (List ℕ) → List IpPrefix
 first_of pieces = filter_map (λ piece. option_map (λ (r : IpPrefix × ℕ). r.0) (prefix_at piece)) pieces
 
-abbrev fault_of : List ℕ → Option FaultOf
+abbrev pub fault_of : List ℕ → Option FaultOf
 fault_of rest = cond (eqb (length rest) 0) None (Some (fault 3 10 []))
 
 -- the prefix at the front comes first, and then those of what follows it

@@ -13,11 +13,18 @@
 //! ```
 #![tactic(auto)]
 
+mod header;
+mod keepalive;
 mod narrow;
-mod writing;
+mod notification;
+mod put;
+pub mod update;
 
+pub use header::{HEADER_LEN, KEEPALIVE, MOST_OCTETS, NOTIFICATION, OPEN, UPDATE};
+pub use keepalive::write_keepalive;
 pub use narrow::{NarrowUpdate, next_prefix, read_narrow};
-pub use writing::{MOST_OCTETS, write_update};
+pub use notification::write_notification;
+pub use update::{Update, check_prefixes, read_update, write_update};
 
 #[cfg(test)]
 mod tests;

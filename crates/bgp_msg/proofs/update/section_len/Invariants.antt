@@ -2,7 +2,7 @@
 use Rattle.std.proofs.Common.{◌≡◌, ◌+◌, ◌≤◌, length, drop}
 use Rattle.std.specs.List.{flat_map}
 use Rattle.rcp_base.specs.IpPrefix.{prefix_octets}
-use Rattle.bgp_msg.proofs.writing.section_len.Given as goal
+use Rattle.bgp_msg.proofs.update.section_len.Given as goal
 
 abbrev pub invariant-loop-prefix : goal.invariant-loop-prefix
 invariant-loop-prefix l =

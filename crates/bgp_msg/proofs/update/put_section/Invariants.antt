@@ -2,7 +2,7 @@
 use Rattle.std.proofs.Common.{◌≡◌, ◌+◌, ◌++◌, length, take, drop}
 use Rattle.std.specs.List.{flat_map}
 use Rattle.rcp_base.specs.IpPrefix.{prefix_octets}
-use Rattle.bgp_msg.proofs.writing.put_section.Given as goal
+use Rattle.bgp_msg.proofs.update.put_section.Given as goal
 
 abbrev pub invariant-loop-prefix : goal.invariant-loop-prefix
 invariant-loop-prefix l =

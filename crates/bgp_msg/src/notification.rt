@@ -1,0 +1,57 @@
+//! NOTIFICATION messages (RFC 4271 section 4.5).
+
+ghost use Rattle.std.specs.Prelude.{◌≡◌, ◌+◌, ◌≤◌, ◌++◌, length, take};
+ghost use Rattle.bgp_fault.specs.Faults.{data_octets, IsWithin};
+ghost use Rattle.path_attrs.specs.Refusals.{fault_in};
+ghost use Rattle.bgp_msg.specs.Written.{notification_octets, data_length};
+
+use crate::header::NOTIFICATION;
+use crate::put::{put, put_header};
+use bgp_fault::{Data, Fault};
+
+// The octets of a NOTIFICATION without data.
+const LEAST_NOTIFICATION: usize = 21;
+
+/// Writes the NOTIFICATION of a fault at the front of `out`, and answers how many octets it has: 21 to 4,094. `body` is
+/// the octets in which the fault was found: a span of the fault names at most 4,073 of them.
+pub fn write_notification(fault: &Fault, body: &[u8], out: &mut [u8; 4096]) -> usize
+    requires within { IsWithin body.now fault.now.extra }
+    requires room { data_length fault.now.extra ≤ 4073 }
+    ensures count { result ≡ 21 + data_length fault.now.extra }
+    ensures octets { take result out.new ≡ notification_octets (fault_in body.now fault.now) }
+{
+    let count = LEAST_NOTIFICATION + data_len(fault.extra);
+    let at = put_header(out, NOTIFICATION, count as u16);
+    let at = put(out, at, &[fault.code, fault.sub]);
+    put_data(out, at, fault.extra, body)
+}
+
+/// How many octets the data of a fault has.
+fn data_len(extra: Data) -> usize
+    ensures { result ≡ data_length extra }
+{
+    match extra {
+        Data::None => 0,
+        Data::Octet(_) => 1,
+        Data::Pair(_) => 2,
+        Data::Span { len, .. } => usize::from(len),
+    }
+}
+
+/// Writes the data of a fault behind the first `at` octets, and answers where it ends.
+fn put_data(out: &mut [u8; 4096], at: usize, extra: Data, body: &[u8]) -> usize
+    requires within { IsWithin body.now extra }
+    requires room { at + data_length extra ≤ 4096 }
+    ensures end { result ≡ at + data_length extra }
+    ensures octets { take result out.new ≡ take at out.old ++ data_octets body.now extra }
+{
+    match extra {
+        Data::None => at,
+        Data::Octet(octet) => put(out, at, &[octet]),
+        Data::Pair(number) => put(out, at, &number.to_be_bytes()),
+        Data::Span { start, len } => {
+            let start = usize::from(start);
+            put(out, at, &body[start..start + usize::from(len)])
+        }
+    }
+}
