@@ -7,3 +7,4 @@ pub mod Plain
 pub mod Whole
 pub mod Sections
 pub mod Walks
+pub mod Again

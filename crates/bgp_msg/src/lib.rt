@@ -15,6 +15,7 @@
 
 mod header;
 mod keepalive;
+mod laws;
 mod narrow;
 mod notification;
 mod put;
@@ -22,6 +23,10 @@ pub mod update;
 
 pub use header::{HEADER_LEN, KEEPALIVE, MOST_OCTETS, NOTIFICATION, OPEN, UPDATE};
 pub use keepalive::write_keepalive;
+pub use laws::{
+    written_keepalive_is_read_again, written_notification_is_read_again,
+    written_update_is_read_again,
+};
 pub use narrow::{NarrowUpdate, next_prefix, read_narrow};
 pub use notification::write_notification;
 pub use update::{Update, check_prefixes, read_update, write_update};
