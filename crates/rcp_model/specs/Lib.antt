@@ -2,6 +2,7 @@ pub use Rattle.rcp_base.specs.IpPrefix
 pub mod Maps
 pub mod Cut
 pub mod Messages
+pub mod Opens
 pub mod Attributes
 pub mod Routes
 pub mod Updates
