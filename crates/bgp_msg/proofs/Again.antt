@@ -19,4 +19,4 @@ IsMessage-keepalive = IsMessage-message_octets 4 [] (omega arith) refl refl
 pub IsMessage-notification : (fault : FaultOf) → length fault.content ≤ 4075 → IsMessage (notification_octets fault)
 IsMessage-notification fault short =
     IsMessage-message_octets 3 (fault.code ∷ fault.sub ∷ fault.content) (omega arith) refl
-    (within_bounds 21 4096 _ (omega arith) (omega arith))
+    (within_bounds 21 4096 (19 + length (fault.code ∷ fault.sub ∷ fault.content)) (omega arith) (omega arith))

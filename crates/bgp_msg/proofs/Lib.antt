@@ -8,3 +8,4 @@ pub mod Whole
 pub mod Sections
 pub mod Walks
 pub mod Again
+pub mod HeaderFaults

@@ -1,3 +1,6 @@
 pub mod Faults
-pub mod Narrow
+pub mod HeaderFields
 pub mod Written
+pub mod Cutting
+pub mod Ends
+pub mod Narrow

@@ -13,6 +13,7 @@
 //! ```
 #![tactic(auto)]
 
+mod cutter;
 mod header;
 mod keepalive;
 mod laws;
@@ -21,7 +22,10 @@ mod notification;
 mod put;
 pub mod update;
 
-pub use header::{HEADER_LEN, KEEPALIVE, MOST_OCTETS, NOTIFICATION, OPEN, UPDATE};
+pub use cutter::{Cutter, Message};
+pub use header::{
+    HEADER_LEN, Header, KEEPALIVE, MARKER, MOST_OCTETS, NOTIFICATION, OPEN, UPDATE, read_header,
+};
 pub use keepalive::write_keepalive;
 pub use laws::{
     written_keepalive_is_read_again, written_notification_is_read_again,

@@ -1,0 +1,120 @@
+//! Messages out of a stream of octets that comes in any pieces.
+
+ghost use Rattle.std.specs.Prelude.{◌≡◌, ◌+◌, ◌-◌, ◌≤◌, ◌++◌, [], Some, false, length, take, min, MatchOption, MatchResult};
+ghost use Rattle.std.specs.Borrow.{sem};
+ghost use Rattle.rcp_model.specs.Messages.{message_size, message_octets};
+ghost use Rattle.path_attrs.specs.Refusals.{fault_in};
+ghost use Rattle.bgp_fault.specs.Faults.{IsWithin};
+ghost use Rattle.bgp_msg.specs.Cutting.{is_waiting, waiting_fault};
+
+use crate::header::{HEADER_LEN, MOST_OCTETS, read_header};
+use crate::put::put;
+use bgp_fault::Fault;
+use std::marker::Model;
+
+/// A whole message.
+#[derive(Clone, Copy, Debug)]
+pub struct Message<'a> {
+    /// The type, of which there are constants: 1 to 4.
+    pub kind: u8,
+    /// The octets behind the header, as many as the type may have: at most 4,077.
+    pub body: &'a [u8],
+}
+
+/// Cuts a stream of octets into messages. It holds the octets that came and weren't handed out: at most one message.
+#[derive(Drop)]
+pub struct Cutter {
+    buffer: [u8; 4096],
+    len: usize,
+}
+
+impl Model for Cutter {
+    ghost use Rattle.std.specs.Prelude.{◌≤◌, List, ℕ, take};
+    ghost use Rattle.bgp_msg.specs.Cutting.{HoldsOne};
+
+    ghost Value = { List ℕ };
+
+    ghost view = { λ c. take c.len c.buffer };
+
+    ghost invariant = { λ c. (c.len ≤ 4096) × HoldsOne (take c.len c.buffer) };
+}
+
+impl Cutter {
+    ghost use Rattle.bgp_msg.specs.Cutting.{Feeds, after_next};
+    ghost use Rattle.bgp_msg.specs.Ends.{EndsAs};
+
+    /// A cutter at the start of a stream, which holds nothing.
+    pub fn new() -> Cutter
+        ensures { result ≡ [] }
+    {
+        Cutter {
+            buffer: [0; MOST_OCTETS],
+            len: 0,
+        }
+    }
+
+    /// Takes a front of the piece, and answers how many octets it took: all of them, unless a message is whole or a
+    /// header is faulty. Where one of these was so before, it takes none.
+    pub fn feed(&mut self, piece: &[u8]) -> usize
+        ensures { Feeds self.old piece.now result self.new }
+    {
+        let count = fill(&mut self.buffer, self.len, HEADER_LEN, piece);
+        self.len += count;
+        let (held, _) = self.buffer.split_at(self.len);
+        if held.len() < HEADER_LEN {
+            return count;
+        }
+        let Ok(header) = read_header(held) else {
+            return count;
+        };
+        let (_, rest) = piece.split_at(count);
+        let more = fill(&mut self.buffer, self.len, usize::from(header.len), rest);
+        self.len += more;
+        count + more
+    }
+
+    /// The message that is whole, which is handed out by this; None where there is none yet. The fault of a header
+    /// comes as soon as its 19 octets are there (RFC 4271 section 6.1), and at each call after that.
+    pub fn next(&mut self) -> Result<Option<Message<'_>>, Fault>
+        ensures given { MatchResult result
+            (λ found. MatchOption found
+                (is_waiting self.old ≡ false)
+                (λ m. (message_size self.old ≡ Some (length self.old)) × (self.old ≡ message_octets m.kind m.body.now)))
+            (λ fault. (waiting_fault self.old ≡ Some (fault_in [] fault)) × IsWithin [] fault.extra) }
+        ensures* after { sem 𝓛 (EndsAs self.entry) }
+    {
+        let (held, _) = self.buffer.split_at(self.len);
+        if held.len() < HEADER_LEN {
+            return Ok(None);
+        }
+        let header = match read_header(held) {
+            Ok(header) => header,
+            Err(fault) => return Err(fault),
+        };
+        let len = self.len;
+        if len < usize::from(header.len) {
+            return Ok(None);
+        }
+        self.len = 0;
+        let (octets, _) = self.buffer.split_at(len);
+        let (_, body) = octets.split_at(HEADER_LEN);
+        Ok(Some(Message {
+            kind: header.kind,
+            body,
+        }))
+    }
+}
+
+/// Copies the front of `piece` behind the first `len` octets of the buffer, until there are `goal` or the piece
+/// ends, and answers how many octets it copied.
+fn fill(buffer: &mut [u8; 4096], len: usize, goal: usize, piece: &[u8]) -> usize
+    requires goal_fits { goal ≤ 4096 }
+    requires len_fits { len ≤ 4096 }
+    ensures count { result ≡ min (goal - len) (length piece.now) }
+    ensures filled { take (len + result) buffer.new ≡ take len buffer.old ++ take result piece.now }
+{
+    let count = goal.saturating_sub(len).min(piece.len());
+    let (front, _) = piece.split_at(count);
+    put(buffer, len, front);
+    count
+}
