@@ -9,3 +9,6 @@ pub mod Sections
 pub mod Walks
 pub mod Again
 pub mod HeaderFaults
+pub mod Holding
+pub mod Feeding
+pub mod Handing

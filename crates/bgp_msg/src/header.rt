@@ -1,7 +1,7 @@
 //! The header of a message (RFC 4271 section 4.1), and its faults (section 6.1).
 
 ghost use Rattle.std.specs.Prelude.{◌≡◌, ◌≤◌, [], Some, None, length, OnOk, IfOk, IfErr};
-ghost use Rattle.rcp_model.specs.Messages.{header_fault, has_marker, type_field, length_field, is_outside, least_length, greatest_length};
+ghost use Rattle.rcp_model.specs.Messages.{header_fault, has_marker, is_outside, least_length, greatest_length};
 ghost use Rattle.path_attrs.specs.Refusals.{fault_in};
 ghost use Rattle.bgp_fault.specs.Faults.{IsWithin};
 ghost use Rattle.bgp_msg.specs.Faults.{header_error};
@@ -48,7 +48,7 @@ pub struct Header {
 pub fn read_header(octets: &[u8]) -> Result<Header, Fault>
     requires { 19 ≤ length octets.now }
     ensures faultless { OnOk result (header_fault octets.now ≡ None) }
-    ensures fields { IfOk result (λ header. (header.kind ≡ type_field octets.now) × (header.len ≡ length_field octets.now)) }
+    ensures fields { IfOk result (λ header. IsHeader octets.now header.kind header.len) }
     ensures fault { IfErr result (λ fault. (header_fault octets.now ≡ Some (fault_in [] fault)) × IsWithin [] fault.extra) }
 {
     if !has_marker(octets) {
