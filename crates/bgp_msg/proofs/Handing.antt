@@ -13,7 +13,7 @@ use Rattle.bgp_msg.specs.HeaderFields.{IsHeader}
 use Rattle.bgp_msg.proofs.Holding.{compared, waiting_fault-long, is_waiting-short, is_waiting-part}
 
 -- where no whole message stands, nothing is handed out
-unchanged : (held : List ℕ) → message_size held ≡ None → held ≡ after_next held
+pub unchanged : (held : List ℕ) → message_size held ≡ None → held ≡ after_next held
 unchanged held none = rw (none, after_next) refl
 
 -- nothing waits, and what is held stays

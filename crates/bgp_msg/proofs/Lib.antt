@@ -12,3 +12,4 @@ pub mod HeaderFaults
 pub mod Holding
 pub mod Feeding
 pub mod Handing
+pub mod Cuts

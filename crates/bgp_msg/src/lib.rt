@@ -20,6 +20,7 @@ mod laws;
 mod narrow;
 mod notification;
 mod put;
+mod streams;
 pub mod update;
 
 pub use cutter::{Cutter, Message};
@@ -33,6 +34,7 @@ pub use laws::{
 };
 pub use narrow::{NarrowUpdate, next_prefix, read_narrow};
 pub use notification::write_notification;
+pub use streams::any_cut;
 pub use update::{Update, check_prefixes, read_update, write_update};
 
 #[cfg(test)]
