@@ -13,3 +13,6 @@ pub mod Holding
 pub mod Feeding
 pub mod Handing
 pub mod Cuts
+pub mod Parameters
+pub mod OpenFaults
+pub mod Offers

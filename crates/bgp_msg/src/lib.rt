@@ -19,6 +19,7 @@ mod keepalive;
 mod laws;
 mod narrow;
 mod notification;
+mod open;
 mod put;
 mod streams;
 pub mod update;
@@ -29,11 +30,12 @@ pub use header::{
 };
 pub use keepalive::write_keepalive;
 pub use laws::{
-    written_keepalive_is_read_again, written_notification_is_read_again,
-    written_update_is_read_again,
+    identifier_comes_before_parameters, written_keepalive_is_read_again,
+    written_notification_is_read_again, written_open_is_read_again, written_update_is_read_again,
 };
 pub use narrow::{NarrowUpdate, next_prefix, read_narrow};
 pub use notification::write_notification;
+pub use open::{OpenBody, identifier_of, read_open, write_open};
 pub use streams::any_cut;
 pub use update::{Update, check_prefixes, read_update, write_update};
 
