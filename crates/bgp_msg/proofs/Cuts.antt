@@ -173,8 +173,7 @@ pub same_for_both : (pieces left others left_others : List (List ℕ)) (calls ca
     → (handed_messages calls ≡ handed_messages calls_others) × (waiting_fault held ≡ waiting_fault held_others)
 same_for_both pieces left others left_others calls calls_others held held_others same reads end reads_others end_others =
     let one = comes pieces calls held left reads end in
-    let other = comes others calls_others held_others left_others reads_others end_others in
-    (
+    let other = comes others calls_others held_others left_others reads_others end_others in (
       one.messages ∙ ap messages_in same ∙ sym other.messages,
       one.fault ∙ ap (λ (octets : List ℕ). waiting_fault (rest_of octets)) same ∙ sym other.fault,
     )

@@ -116,8 +116,8 @@ module _ (old piece : List ℕ) (count : ℕ) (new : List ℕ) (b : Begins old p
     whole_or : count + more ≡ 0 → 19 ≤ length old → (piece ≡ []) ⊎ (is_waiting old ≡ true)
     whole_or nothing held =
         ⊎_elim (λ (part : length old < length_field old).
-            let none : length piece ≡ 0 = omega (arith, none_of held, old_field held, ap length (same held), more_is, length-drop count piece, part) in
-            inl (nil_from_length piece none))
+        let none : length piece ≡ 0 = omega (arith, none_of held, old_field held, ap length (same held), more_is, length-drop count piece, part) in
+        inl (nil_from_length piece none))
         (λ (whole : length_field old ≤ length old). inr (is_waiting-whole old held (old_faultless held) whole))
         (compared (length_field old) (length old))
 

@@ -57,8 +57,8 @@ module _ (held : List ℕ) (long : 19 ≤ length held) (faultless : header_fault
       sym (take-append-drop 16 held)
       ∙ ap (λ (xs : List ℕ). take 16 held ++ xs)
       (
-        sym (take-append-drop 2 (drop 16 held))
-        ∙ ap (λ (xs : List ℕ). length_octets held ++ xs) (drop-drop 2 16 held ∙ drop-cons held 18 0 (omega arith))
+      sym (take-append-drop 2 (drop 16 held))
+      ∙ ap (λ (xs : List ℕ). length_octets held ++ xs) (drop-drop 2 16 held ∙ drop-cons held 18 0 (omega arith))
       )
 
   module _ (one : HoldsOne held) (there : length_field held ≤ length held) where

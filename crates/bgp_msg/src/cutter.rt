@@ -78,8 +78,8 @@ impl Cutter {
     pub fn next(&mut self) -> Result<Option<Message<'_>>, Fault>
         ensures given { MatchResult result
             (λ found. MatchOption found
-                (is_waiting self.old ≡ false)
-                (λ m. (message_size self.old ≡ Some (length self.old)) × (self.old ≡ message_octets m.kind m.body.now)))
+            (is_waiting self.old ≡ false)
+            (λ m. (message_size self.old ≡ Some (length self.old)) × (self.old ≡ message_octets m.kind m.body.now)))
             (λ fault. (waiting_fault self.old ≡ Some (fault_in [] fault)) × IsWithin [] fault.extra) }
         ensures* after { sem 𝓛 (EndsAs self.entry) }
     {

@@ -19,6 +19,7 @@ const VERSION: u8 = 4;
 
 // The octets of an OPEN without parameters, and those of its body.
 const LEAST_OPEN: u16 = 29;
+
 const LEAST_BODY: usize = 10;
 
 // The type of the parameter that holds capabilities (RFC 5492 section 4).

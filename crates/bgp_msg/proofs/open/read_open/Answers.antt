@@ -27,10 +27,9 @@ returns-then-from-parameters c =
     let version = c.if-body-ne-VERSION.false in
     let same = sym c.from-2.ensures ∙ c.if-from-local_as.false in
     let long = sym c.is_short_hold.ensures ∙ c.if-is_short_hold.false in
-    rw c.open_error-then-from-parameters.ensures
-    (
+    rw c.open_error-then-from-parameters.ensures (
       length_fault c.args.local_as c.args.body.now version _ c.offer_of-offer.ensures same long
-      (λ e. c.if-from-parameters.true (c.from-3.ensures ∙ e ∙ ap length (sym c.split_at.ensures.back))),
+          (λ e. c.if-from-parameters.true (c.from-3.ensures ∙ e ∙ ap length (sym c.split_at.ensures.back))),
       tt,
     )
 
