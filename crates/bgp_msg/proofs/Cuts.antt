@@ -1,5 +1,5 @@
 -- Calls of a cutter, one after another, hand out the messages of the one reading.
-use Rattle.std.proofs.Common.{◌≡◌, ◌≢◌, ℕ, ◌<◌, ◌≤◌, ◌⊎◌, inl, inr, ⊎_elim, Bool, true, false, ◌||◌, List, [], ◌∷◌, ◌++◌, length, take, drop, Option, Some, None, refl, sym, ap, ◌∙◌, subst, arith, length-append, append_assoc, append-nil}
+use Rattle.std.proofs.Common.{◌≡◌, ◌≢◌, ℕ, ◌<◌, ◌≤◌, inl, inr, ⊎_elim, false, List, [], ◌∷◌, ◌++◌, length, take, drop, Option, Some, None, refl, sym, ap, ◌∙◌, subst, arith, length-append, append_assoc, append-nil}
 use Rattle.std.specs.Prelude.{is_some}
 use Rattle.std.specs.List.{concat, AllByRecursion}
 use Rattle.std.proofs.Math.Seq.{drop-length}
@@ -8,7 +8,7 @@ use Rattle.std.proofs.lemmas.List.{take-append-drop}
 use Rattle.std.proofs.lemmas.Option.{none-some}
 use Rattle.rcp_model.specs.Messages.{FaultOf, header_fault, message_size, IsMessage, IsRest, IsReading, messages_in, rest_of}
 use Rattle.rcp_model.proofs.ReadingLemmas.{header_fault-append, message_size-None, IsMessage-seen, IsRest-from, reading_is_one, messages_in-cons, messages_in-concat}
-use Rattle.bgp_msg.specs.Cutting.{waiting_fault, is_waiting, after_next, Feeds, Call, fed, turned, handed, refused, waited, Leads, Run, IsGiven, Reads, IsAtEnd, handed_messages, told_faults}
+use Rattle.bgp_msg.specs.Cutting.{waiting_fault, is_waiting, after_next, Feeds, Call, fed, turned, handed, refused, waited, Run, IsGiven, Reads, IsAtEnd, handed_messages, told_faults}
 use Rattle.bgp_msg.proofs.Handing.{unchanged}
 use Rattle.bgp_msg.proofs.Holding.{compared, waiting_fault-short, waiting_fault-long}
 

@@ -1,12 +1,12 @@
 -- What `feed` does: the front of a piece goes behind what is held, up to a header, and then up to its message.
-use Rattle.std.proofs.Common.{◌≡◌, ℕ, ◌+◌, ◌-◌, ◌<◌, ◌≤◌, ◌⊎◌, inl, inr, ⊎_elim, true, false, List, [], ◌∷◌, ◌++◌, length, take, drop, min, Some, None, refl, sym, ap, ◌∙◌, subst, arith, length-append, length-drop, length-take-le, append_assoc, append-nil}
+use Rattle.std.proofs.Common.{◌≡◌, ℕ, ◌+◌, ◌-◌, ◌<◌, ◌≤◌, ◌⊎◌, inl, inr, ⊎_elim, true, false, List, [], ◌++◌, length, take, drop, min, Some, None, sym, ap, ◌∙◌, subst, arith, length-append, length-drop, length-take-le, append_assoc, append-nil}
 use Rattle.std.proofs.Math.Seq.{take-add}
 use Rattle.std.proofs.lemmas.Bool.{false≢true}
 use Rattle.std.proofs.lemmas.List.{nil_from_length}
 use Rattle.rcp_model.specs.Messages.{FaultOf, header_fault, length_field}
 use Rattle.rcp_model.proofs.ReadingLemmas.{header_fault-append, length_field-append, faultless_length}
 use Rattle.bgp_msg.specs.Cutting.{is_waiting, HoldsOne, Feeds}
-use Rattle.bgp_msg.proofs.Holding.{compared, is_waiting-short, is_waiting-faulty, is_waiting-part, is_waiting-whole, waits-long}
+use Rattle.bgp_msg.proofs.Holding.{compared, is_waiting-faulty, is_waiting-part, is_waiting-whole, waits-long}
 
 -- the octets of a piece up to a header
 pub record Begins (old piece : List ℕ) (count : ℕ) (new : List ℕ) : Type 0 where

@@ -1,5 +1,5 @@
 -- Four attributes one after another are of one reading.
-use Rattle.std.proofs.Common.{◌≡◌, ℕ, List, [], ◌∷◌, ◌++◌, length, take, drop, refl, sym, ap, ◌∙◌, take_at, drop_at, append-nil}
+use Rattle.std.proofs.Common.{◌≡◌, ℕ, List, [], ◌++◌, length, take, drop, refl, sym, ap, ◌∙◌, take_at, drop_at, append-nil}
 use Rattle.rcp_model.specs.Attributes.{ORIGIN, AS_PATH, NEXT_HOP, LOCAL_PREF}
 use Rattle.bgp_msg.specs.Narrow.{well_known, four_attributes}
 

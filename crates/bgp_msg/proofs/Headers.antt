@@ -1,12 +1,10 @@
 -- A whole UPDATE by its header, and its sections where it withdraws nothing.
-use Rattle.std.proofs.Common.{◌≡◌, ◌≢◌, ℕ, ◌+◌, ◌<◌, ◌≤◌, Bool, true, false, not, cond, eqb, ltb, leb, ◌&&◌, List, [], ◌∷◌, length, take, drop, get_or, Option, Some, None, refl, sym, ap, ◌∙◌, arith, length-take-le, length-drop}
-use Rattle.std.specs.List.{AllByRecursion}
-use Rattle.std.specs.Prelude.{◌==◌, is_none, bytes_eq}
-use Rattle.std.specs.Int.{w16}
+use Rattle.std.proofs.Common.{◌≡◌, ◌≢◌, ℕ, ◌+◌, ◌<◌, ◌≤◌, Bool, true, false, eqb, ltb, leb, ◌&&◌, List, [], ◌∷◌, length, take, drop, get_or, Option, Some, None, refl, sym, ap, ◌∙◌, arith, length-take-le, length-drop}
+use Rattle.std.specs.Prelude.{◌==◌}
 use Rattle.std.proofs.lemmas.Bool.{and_parts, and_from, or_parts, or_from, le-ltb, ltb-false, le-leb, lt-leb, leb-true, eqb-true, eq-eqb, ne_eqb, not-false, not_from_true, false≢true, cond_both, and_left, and_right}
 use Rattle.std.proofs.lemmas.List.{drop-drop, get_or-drop}
 use Rattle.std.proofs.lemmas.Slice.Eq.{bytes_eq-Decides}
-use Rattle.rcp_model.specs.Messages.{FaultOf, marker, has_marker, length_field, type_field, is_outside, least_length, greatest_length, header_fault, message_size}
+use Rattle.rcp_model.specs.Messages.{marker, has_marker, length_field, type_field, is_outside, least_length, greatest_length, message_size}
 use Rattle.rcp_model.specs.Updates.{Sections, leading_number, after_section, section, has_section, sections_of}
 use Rattle.rcp_model.specs.Plain.{are_plain_sections}
 use Rattle.rcp_model.proofs.ReadingLemmas.{header_passes, header_fault-None, message_size-from, message_size-Some}

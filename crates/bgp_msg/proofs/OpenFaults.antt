@@ -1,7 +1,7 @@
 -- The first fault of an OPEN, at each check.
-use Rattle.std.proofs.Common.{◌≡◌, ◌≢◌, ℕ, Bool, true, false, eqb, List, [], ◌∷◌, length, Option, Some, None, refl, sym, ap, ◌∙◌}
+use Rattle.std.proofs.Common.{◌≡◌, ◌≢◌, ℕ, true, false, eqb, List, [], ◌∷◌, length, Some, refl, sym, ap, ◌∙◌}
 use Rattle.std.proofs.lemmas.Bool.{ne_eqb, eq-eqb}
-use Rattle.rcp_model.specs.Messages.{FaultOf, fault}
+use Rattle.rcp_model.specs.Messages.{fault}
 use Rattle.rcp_model.specs.Opens.{OpenFields, version_of, open_fields, is_short_hold, parameters_length, parameters_of, open_fault}
 use Rattle.bgp_msg.specs.Opened.{fault_but_identifier, parameters_fault}
 

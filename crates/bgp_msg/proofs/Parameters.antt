@@ -1,12 +1,12 @@
 -- The parameters of an OPEN, walked from the front.
-use Rattle.std.proofs.Common.{◌≡◌, ◌≢◌, ℕ, ◌+◌, ◌<◌, ◌≤◌, Bool, true, false, not, ◌||◌, eqb, List, [], ◌∷◌, length, take, drop, Option, Some, None, refl, sym, ap, ◌∙◌, arith}
+use Rattle.std.proofs.Common.{◌≡◌, ◌≢◌, ℕ, ◌<◌, ◌≤◌, false, not, eqb, List, [], ◌∷◌, length, take, drop, Option, Some, None, refl, sym, ap, ◌∙◌}
 use Rattle.std.specs.Prelude.{slice_index}
 use Rattle.std.specs.List.{list_any}
 use Rattle.std.proofs.lemmas.Bool.{ne_eqb}
 use Rattle.std.proofs.lemmas.List.{get_or-take}
 use Rattle.rcp_model.specs.Cut.{cut}
 use Rattle.rcp_model.specs.Messages.{FaultOf, fault, first_failing}
-use Rattle.rcp_model.specs.Opens.{parameter_size, has_unknown_parameter, has_partial_parameter}
+use Rattle.rcp_model.specs.Opens.{parameter_size}
 use Rattle.rcp_model.proofs.CutLemmas.{cut-front, cut-stop}
 use Rattle.bgp_msg.specs.Opened.{parameters_fault}
 

@@ -1,24 +1,23 @@
 -- Attributes that are a plain list are the four that are read, and the other way round.
-use Rattle.std.proofs.Common.{◌≡◌, ◌≢◌, ℕ, zero, suc, ◌+◌, ◌*◌, ◌<◌, ◌≤◌, ◌^◌, Bool, true, false, cond, not, ◌&&◌, ◌||◌, eqb, ltb, leb, List, [], ◌∷◌, ◌++◌, length, map, take, drop, Option, Some, None, refl, sym, ap, ◌∙◌, subst, arith, append-nil, zero-add}
+use Rattle.std.proofs.Common.{◌≡◌, ℕ, ◌+◌, ◌<◌, ◌≤◌, Bool, true, false, cond, not, ◌&&◌, ◌||◌, eqb, ltb, leb, List, [], ◌∷◌, ◌++◌, length, map, drop, Some, None, refl, sym, ap, ◌∙◌, subst, arith, append-nil, zero-add}
 use Rattle.std.specs.Prelude.{slice_index, is_none, bytes_eq}
 use Rattle.std.specs.List.{list_any, list_all, concat, flat_map, All, AllByRecursion}
-use Rattle.std.specs.Int.{w8, w16, w32, from_be_bytes}
-use Rattle.std.proofs.lemmas.Bool.{and_parts, and_from, le-leb, le-ltb, ltb-false, or_parts, or_from, not-false, eqb-true, eq-eqb, ne_eqb}
-use Rattle.std.proofs.lemmas.List.{nil_from_length}
+use Rattle.std.specs.Int.{w16, w32, from_be_bytes}
+use Rattle.std.proofs.lemmas.Bool.{and_parts, le-leb, le-ltb, ltb-false, or_parts, not-false, eqb-true, eq-eqb, ne_eqb}
 use Rattle.std.proofs.lemmas.Option.{none-some}
 use Rattle.std.proofs.lemmas.Slice.Eq.{bytes_eq-Decides}
 use Rattle.rcp_model.specs.Cut.{cut}
-use Rattle.rcp_model.specs.Messages.{FaultOf, fault, is_outside, first_failing}
-use Rattle.rcp_model.specs.Attributes.{Attribute, Segment, ORIGIN, AS_PATH, NEXT_HOP, LOCAL_PREF, is_recognised, is_optional, attribute_size, attribute_of, attributes_in, value_of, value_place, value_length, segments_in, numbers_in, is_faulty_path, value_fault, has_faulty_value, has_other_category, has_other_length, attribute_fault, or_else, list_fault, missing_fault, attributes_fault, has_route, canonical, attribute_octets, canonical_octets}
-use Rattle.rcp_model.specs.Routes.{RouteFields, path_of, route_of, route_in, is_long, IsRoute}
+use Rattle.rcp_model.specs.Messages.{FaultOf, fault}
+use Rattle.rcp_model.specs.Attributes.{Attribute, is_recognised, is_optional, attribute_size, attribute_of, attributes_in, value_place, value_length, numbers_in, is_faulty_path, value_fault, has_faulty_value, has_other_category, has_other_length, attribute_fault, list_fault, missing_fault, attributes_fault, canonical, attribute_octets, canonical_octets}
+use Rattle.rcp_model.specs.Routes.{RouteFields, path_of, route_of}
 use Rattle.rcp_model.specs.Plain.{is_one_sequence, is_plain_list}
 use Rattle.rcp_model.proofs.CutLemmas.{cut-whole, cut-pieces}
 use Rattle.rcp_model.proofs.FaultLemmas.{HasPassed, all_passed, or_else-None, is_none-true}
-use Rattle.rcp_model.proofs.AttributeLemmas.{IsSize-attribute_size, IsAttribute, IsAttribute-seen, read_back}
+use Rattle.rcp_model.proofs.AttributeLemmas.{IsSize-attribute_size, IsAttribute-seen, read_back}
 use Rattle.rcp_model.proofs.CanonicalLemmas.{IsWritten, cut-written, attributes_in-written}
 use Rattle.rcp_model.proofs.RouteLemmas.{route_of_octets}
-use Rattle.bgp_msg.specs.Narrow.{well_known, four_attributes, is_plain_attributes, IsOrigin, IsSequence, IsNextHop, sequence_in, route_told, Tells}
-use Rattle.bgp_msg.proofs.Sequences.{IsAlone, IsAlone-sequence, IsSequence-from, segments_in-sequence}
+use Rattle.bgp_msg.specs.Narrow.{well_known, four_attributes, is_plain_attributes, IsOrigin, IsSequence, IsNextHop, route_told, Tells}
+use Rattle.bgp_msg.proofs.Sequences.{IsAlone-sequence, IsSequence-from, segments_in-sequence}
 
 abbrev attribute : ℕ → List ℕ → Attribute
 attribute kind value = record { flags = 64; kind = kind; value = value }

@@ -1,15 +1,15 @@
 -- A path that is one AS_SEQUENCE, by its octets.
-use Rattle.std.proofs.Common.{◌≡◌, ◌≢◌, ℕ, suc, ◌+◌, ◌*◌, ◌<◌, ◌≤◌, Bool, true, false, not, ◌&&◌, ◌||◌, eqb, ltb, leb, List, [], ◌∷◌, ◌++◌, length, map, take, drop, get_or, Option, Some, None, refl, sym, ap, ◌∙◌, subst, arith, append-nil}
+use Rattle.std.proofs.Common.{◌≡◌, ℕ, ◌+◌, ◌*◌, ◌≤◌, true, false, not, ◌||◌, eqb, leb, List, [], ◌∷◌, ◌++◌, length, map, drop, Some, refl, sym, ap, ◌∙◌, subst, arith, append-nil}
 use Rattle.std.specs.Prelude.{slice_index}
-use Rattle.std.specs.List.{list_any, concat}
-use Rattle.std.specs.Int.{w16, byte_len}
+use Rattle.std.specs.List.{list_any}
+use Rattle.std.specs.Int.{w16}
 use Rattle.std.proofs.Math.Seq.{take-length, drop-length}
-use Rattle.std.proofs.lemmas.Bool.{and_parts, le-leb, leb-true, or_parts, not-false, not-true, eqb-true, eq-eqb, ne_eqb, eqb-false, false≢true}
+use Rattle.std.proofs.lemmas.Bool.{and_parts, le-leb, leb-true, or_parts, not-false, eqb-true, ne_eqb, eqb-false, false≢true}
 use Rattle.std.proofs.lemmas.List.{nil_from_length}
 use Rattle.std.proofs.lemmas.Option.{cond_some}
 use Rattle.rcp_model.specs.Cut.{cut}
 use Rattle.rcp_model.specs.Messages.{is_outside}
-use Rattle.rcp_model.specs.Attributes.{Segment, AS_SEQUENCE, segment_size, segment_of, segments_in, numbers_in, is_faulty_path}
+use Rattle.rcp_model.specs.Attributes.{Segment, segment_size, segment_of, segments_in, numbers_in, is_faulty_path}
 use Rattle.rcp_model.specs.Plain.{is_one_sequence}
 use Rattle.rcp_model.proofs.CutLemmas.{IsSize, IsCut, cut_is, cut-front}
 use Rattle.bgp_msg.specs.Narrow.{IsSequence, sequence_in}

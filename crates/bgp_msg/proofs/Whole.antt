@@ -1,11 +1,11 @@
 -- An UPDATE of the form by its header, its sections, its attributes and its prefixes.
-use Rattle.std.proofs.Common.{◌≡◌, ◌≢◌, ℕ, Bool, true, false, cond, not, ◌&&◌, ◌↔◌, eqb, List, [], length, drop, Option, Some, None, refl, sym, ap, ◌∙◌}
+use Rattle.std.proofs.Common.{◌≡◌, ◌≢◌, ℕ, Bool, true, false, not, ◌&&◌, ◌↔◌, eqb, List, [], length, drop, Option, Some, None, refl, sym, ap, ◌∙◌}
 use Rattle.std.specs.Prelude.{is_none, MatchOption, IfSome, IsSome}
 use Rattle.std.specs.Int.{w16}
 use Rattle.std.proofs.lemmas.Bool.{and_parts, and_from, not-true, not_from_false, eqb-false, ne_eqb, both_ways, false≢true}
 use Rattle.rcp_model.specs.Messages.{FaultOf}
 use Rattle.rcp_model.specs.Attributes.{attributes_in, attributes_fault, canonical_octets, or_else}
-use Rattle.rcp_model.specs.Updates.{Sections, sections_of, prefixes_in, prefixes_fault, update_fault, changes_of, Changes}
+use Rattle.rcp_model.specs.Updates.{Sections, sections_of, prefixes_in, prefixes_fault, update_fault, changes_of}
 use Rattle.rcp_model.specs.Routes.{RouteFields, route_of}
 use Rattle.rcp_model.specs.Plain.{is_plain_list, are_plain_sections, is_plain_update}
 use Rattle.rcp_model.proofs.FaultLemmas.{or_else-None, is_none-true}

@@ -1,5 +1,5 @@
 -- The sections are read as they are told, where nothing is withdrawn.
-use Rattle.std.proofs.Common.{◌≡◌, ◌<◌, ◌≤◌, ℕ, sym, ap, ◌∙◌, drop, length, take, arith, subst}
+use Rattle.std.proofs.Common.{◌≡◌, ℕ, sym, ap, ◌∙◌, drop, length, take, arith}
 use Rattle.rcp_model.specs.Updates.{leading_number}
 use Rattle.bgp_msg.proofs.Headers.{short-first, some_withdrawn, short-second, short-attributes, sections-Some}
 use Rattle.bgp_msg.proofs.narrow.announcement.Goals as goal

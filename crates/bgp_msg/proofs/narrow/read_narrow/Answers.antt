@@ -1,15 +1,15 @@
 -- An UPDATE is of the form where its header, its sections, its prefixes and its attributes are.
-use Rattle.std.proofs.Common.{◌≡◌, ◌≤◌, ℕ, true, false, List, [], length, drop, Option, Some, refl, sym, ap, ◌∙◌}
-use Rattle.std.specs.Prelude.{IsSome, ◌↔◌, IfSome, is_none}
+use Rattle.std.proofs.Common.{◌≡◌, ◌≤◌, ℕ, true, List, [], length, drop, Option, Some, sym, ap, ◌∙◌}
+use Rattle.std.specs.Prelude.{is_none}
 use Rattle.std.proofs.lemmas.Bool.{both_ways, eqb-false, eqb-true, false≢true}
 use Rattle.rcp_model.specs.Messages.{FaultOf}
-use Rattle.rcp_model.specs.Attributes.{canonical_octets, attributes_in}
-use Rattle.rcp_model.specs.Updates.{Changes, sections_of, changes_of, prefixes_in, prefixes_fault}
+use Rattle.rcp_model.specs.Attributes.{canonical_octets}
+use Rattle.rcp_model.specs.Updates.{Changes, sections_of, changes_of, prefixes_in}
 use Rattle.rcp_model.specs.Plain.{is_plain_update}
 use Rattle.rcp_model.proofs.FaultLemmas.{is_none-true}
 use Rattle.bgp_msg.specs.declared.narrow.NarrowUpdate.{NarrowUpdate}
 use Rattle.bgp_msg.specs.Narrow.{is_plain_attributes, Tells}
-use Rattle.bgp_msg.proofs.Whole.{announcing, plain-whole, plain-sections, changes-are, HasParts, HasParts-from, plain-from, told_octets, none_iff, some_iff, some_gives}
+use Rattle.bgp_msg.proofs.Whole.{announcing, plain-whole, plain-sections, changes-are, HasParts-from, plain-from, told_octets, none_iff, some_iff, some_gives}
 use Rattle.bgp_msg.proofs.narrow.read_narrow.Goals.{In_ok-attrs, After-with_attributes, then-is_empty-via-then-is_empty, then-is_empty-via-else-is_empty+then-not-are_prefixes}
 use Rattle.bgp_msg.proofs.narrow.read_narrow.Goals as goal
 

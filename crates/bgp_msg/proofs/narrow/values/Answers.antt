@@ -1,8 +1,6 @@
 -- Where a value isn't there, the octets are no four attributes.
 use Rattle.std.proofs.Common.{ap, ◌∙◌, length}
 use Rattle.std.proofs.lemmas.Bool.{false≢true, eq-eqb}
-use Rattle.rcp_model.specs.Attributes.{NEXT_HOP, LOCAL_PREF}
-use Rattle.bgp_msg.specs.Narrow.{well_known}
 use Rattle.bgp_msg.proofs.FourAttributes.{after_origin, after_path, after_next_hop, after_all}
 use Rattle.bgp_msg.proofs.narrow.values.Goals as goal
 

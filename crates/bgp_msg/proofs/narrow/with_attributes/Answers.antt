@@ -1,12 +1,11 @@
 -- Where a value isn't there or isn't sound, the attributes are no plain list; else they are one, and the values tell its route.
-use Rattle.std.proofs.Common.{◌≡◌, ◌<◌, ◌≤◌, ℕ, List, ◌∷◌, [], sym, ap, ◌∙◌, subst, refl, drop, length, arith, get_or}
+use Rattle.std.proofs.Common.{◌≡◌, ◌<◌, ◌≤◌, ℕ, List, ◌∷◌, [], sym, ap, ◌∙◌, subst, refl, length, arith}
 use Rattle.std.specs.Prelude.{true}
 use Rattle.std.specs.List.{All}
-use Rattle.std.specs.Int.{w32, from_be_bytes}
 use Rattle.std.proofs.lemmas.Bool.{false_from_ne_true}
 use Rattle.std.proofs.lemmas.List.Elements.{All-from_get_or}
-use Rattle.bgp_msg.specs.Narrow.{four_attributes, is_plain_attributes, IsOrigin, IsSequence, IsNextHop, Tells}
-use Rattle.bgp_msg.proofs.FourAttributes.{HaveSame, have_same}
+use Rattle.bgp_msg.specs.Narrow.{four_attributes, is_plain_attributes, IsOrigin, IsSequence, IsNextHop}
+use Rattle.bgp_msg.proofs.FourAttributes.{have_same}
 use Rattle.bgp_msg.proofs.Plain.{AreShort, AreSound, AreRead, IsFour-from, is_plain-four, Tells-read}
 use Rattle.bgp_msg.proofs.narrow.with_attributes.Goals.{In_ok-origin}
 use Rattle.bgp_msg.proofs.narrow.with_attributes.Goals as goal

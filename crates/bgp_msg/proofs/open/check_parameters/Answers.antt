@@ -1,6 +1,6 @@
 use Rattle.std.proofs.Common.{◌∙◌, sym, ap, arith}
 use Rattle.bgp_msg.specs.Opened.{parameters_fault}
-use Rattle.bgp_msg.proofs.Parameters.{parameters_fault-front, parameters_fault-unknown, parameters_fault-partial}
+use Rattle.bgp_msg.proofs.Parameters.{parameters_fault-front, parameters_fault-partial}
 use Rattle.bgp_msg.proofs.open.check_parameters.Goals as goal
 
 pub returns-in_default : goal.returns-in_default

@@ -1,5 +1,5 @@
 -- Each check is that of the definition, in its order.
-use Rattle.std.proofs.Common.{◌≡◌, ◌∙◌, sym, ap, length}
+use Rattle.std.proofs.Common.{◌∙◌, sym, ap, length}
 use Rattle.bgp_msg.specs.Opened.{parameters_fault}
 use Rattle.bgp_msg.proofs.OpenFaults.{version_fault, as_fault, hold_fault, length_fault, parameters_left}
 use Rattle.bgp_msg.proofs.open.read_open.Goals as goal

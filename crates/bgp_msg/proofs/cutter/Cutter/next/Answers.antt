@@ -1,5 +1,5 @@
 -- What is found in front of what is held decides, and only a whole message is taken away.
-use Rattle.std.proofs.Common.{◌≡◌, ◌+◌, ◌<◌, ◌≤◌, ℕ, List, length, take, drop, refl, sym, ap, ◌∙◌, subst, arith}
+use Rattle.std.proofs.Common.{◌<◌, ◌≤◌, ℕ, List, length, drop, refl, sym, ap, ◌∙◌, subst, arith}
 use Rattle.rcp_model.specs.Messages.{header_fault, length_field, message_octets}
 use Rattle.bgp_msg.specs.Cutting.{HoldsOne}
 use Rattle.bgp_msg.specs.HeaderFields.{IsHeader}
