@@ -41,10 +41,11 @@ Refuses-faulty held f long e = record {
 }
 
 -- all that is held is a message, and is handed out
-pub record Hands (held : List ℕ) (kind : ℕ) (body : List ℕ) : Type 0 where
+pub record Hands (held : List ℕ) (kind len : ℕ) (body : List ℕ) : Type 0 where
   pub whole : message_size held ≡ Some (length held)
   pub message : held ≡ message_octets kind body
   pub empty : [] ≡ after_next held
+  pub count : len ≡ 19 + length body
 
 module _ (held : List ℕ) (long : 19 ≤ length held) (faultless : header_fault held ≡ None) where
   marked : take 16 held ≡ marker
@@ -75,9 +76,10 @@ module _ (held : List ℕ) (long : 19 ≤ length held) (faultless : header_fault
         parts
         ∙ rw (marked, ← header.spelled, ← header.kind_is, told) refl
 
-    pub Hands-whole : (kind len : ℕ) → IsHeader held kind len → Hands held kind (drop 19 held)
+    pub Hands-whole : (kind len : ℕ) → IsHeader held kind len → Hands held kind len (drop 19 held)
     Hands-whole kind len header = record {
       whole = size;
       message = message_is kind len header;
+      count = omega (arith, length-drop 19 held, exact, header.len_is);
       empty = let e = size in rw (e, after_next) (sym (drop-length held));
     }
