@@ -2,7 +2,7 @@
 use Rattle.std.proofs.Common.{◌≡◌, ℕ, ◌+◌, ◌≤◌, false, List, [], ◌∷◌, ◌++◌, length, refl, arith}
 use Rattle.std.proofs.lemmas.Bool.{or_from, le-ltb}
 use Rattle.std.proofs.Common.{ltb}
-use Rattle.rcp_model.specs.Messages.{FaultOf, is_outside, IsMessage, messages_in, message_octets}
+use Rattle.rcp_model.specs.Messages.{FaultOf, is_outside, IsMessage, messages_in}
 use Rattle.rcp_model.proofs.ReadingLemmas.{IsMessage-message_octets, messages_in-cons}
 use Rattle.bgp_msg.specs.Written.{keepalive_octets, notification_octets}
 

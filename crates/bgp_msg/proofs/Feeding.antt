@@ -1,12 +1,12 @@
 -- What `feed` does: the front of a piece goes behind what is held, up to a header, and then up to its message.
-use Rattle.std.proofs.Common.{◌≡◌, ℕ, ◌+◌, ◌-◌, ◌<◌, ◌≤◌, ◌⊎◌, inl, inr, ⊎_elim, true, false, List, [], ◌∷◌, ◌++◌, length, take, drop, min, Some, None, refl, sym, ap, ◌∙◌, subst, arith, length-append, length-drop, length-take-le, append_assoc, append-nil}
+use Rattle.std.proofs.Common.{◌≡◌, ℕ, ◌+◌, ◌-◌, ◌<◌, ◌≤◌, ◌⊎◌, inl, inr, ⊎_elim, true, false, List, [], ◌++◌, length, take, drop, min, Some, None, sym, ap, ◌∙◌, subst, arith, length-append, length-drop, length-take-le, append_assoc, append-nil}
 use Rattle.std.proofs.Math.Seq.{take-add}
 use Rattle.std.proofs.lemmas.Bool.{false≢true}
 use Rattle.std.proofs.lemmas.List.{nil_from_length}
 use Rattle.rcp_model.specs.Messages.{FaultOf, header_fault, length_field}
 use Rattle.rcp_model.proofs.ReadingLemmas.{header_fault-append, length_field-append, faultless_length}
 use Rattle.bgp_msg.specs.Cutting.{is_waiting, HoldsOne, Feeds}
-use Rattle.bgp_msg.proofs.Holding.{compared, is_waiting-short, is_waiting-faulty, is_waiting-part, is_waiting-whole, waits-long}
+use Rattle.bgp_msg.proofs.Holding.{compared, is_waiting-faulty, is_waiting-part, is_waiting-whole, waits-long}
 
 -- the octets of a piece up to a header
 pub record Begins (old piece : List ℕ) (count : ℕ) (new : List ℕ) : Type 0 where
@@ -116,8 +116,8 @@ module _ (old piece : List ℕ) (count : ℕ) (new : List ℕ) (b : Begins old p
     whole_or : count + more ≡ 0 → 19 ≤ length old → (piece ≡ []) ⊎ (is_waiting old ≡ true)
     whole_or nothing held =
         ⊎_elim (λ (part : length old < length_field old).
-            let none : length piece ≡ 0 = omega (arith, none_of held, old_field held, ap length (same held), more_is, length-drop count piece, part) in
-            inl (nil_from_length piece none))
+        let none : length piece ≡ 0 = omega (arith, none_of held, old_field held, ap length (same held), more_is, length-drop count piece, part) in
+        inl (nil_from_length piece none))
         (λ (whole : length_field old ≤ length old). inr (is_waiting-whole old held (old_faultless held) whole))
         (compared (length_field old) (length old))
 

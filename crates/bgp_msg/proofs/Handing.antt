@@ -1,6 +1,5 @@
 -- What `next` finds in front of what is held, and what it leaves.
-use Rattle.std.proofs.Common.{◌≡◌, ℕ, ◌+◌, ◌<◌, ◌≤◌, inl, inr, ⊎_elim, true, false, List, [], ◌∷◌, ◌++◌, length, take, drop, get_or, Some, None, refl, sym, ap, ◌∙◌, arith, length-drop, append_assoc}
-use Rattle.std.specs.Int.{w16, to_be_bytes}
+use Rattle.std.proofs.Common.{◌≡◌, ℕ, ◌+◌, ◌<◌, ◌≤◌, inl, inr, ⊎_elim, false, List, [], ◌∷◌, ◌++◌, length, take, drop, Some, None, refl, sym, ap, ◌∙◌, arith, length-drop}
 use Rattle.std.proofs.Math.Seq.{drop-cons, drop-length}
 use Rattle.std.proofs.lemmas.Bool.{not-false}
 use Rattle.std.proofs.lemmas.List.{take-append-drop, drop-drop}
@@ -13,7 +12,7 @@ use Rattle.bgp_msg.specs.HeaderFields.{IsHeader}
 use Rattle.bgp_msg.proofs.Holding.{compared, waiting_fault-long, is_waiting-short, is_waiting-part}
 
 -- where no whole message stands, nothing is handed out
-unchanged : (held : List ℕ) → message_size held ≡ None → held ≡ after_next held
+pub unchanged : (held : List ℕ) → message_size held ≡ None → held ≡ after_next held
 unchanged held none = rw (none, after_next) refl
 
 -- nothing waits, and what is held stays
@@ -42,10 +41,11 @@ Refuses-faulty held f long e = record {
 }
 
 -- all that is held is a message, and is handed out
-pub record Hands (held : List ℕ) (kind : ℕ) (body : List ℕ) : Type 0 where
+pub record Hands (held : List ℕ) (kind len : ℕ) (body : List ℕ) : Type 0 where
   pub whole : message_size held ≡ Some (length held)
   pub message : held ≡ message_octets kind body
   pub empty : [] ≡ after_next held
+  pub count : len ≡ 19 + length body
 
 module _ (held : List ℕ) (long : 19 ≤ length held) (faultless : header_fault held ≡ None) where
   marked : take 16 held ≡ marker
@@ -57,8 +57,8 @@ module _ (held : List ℕ) (long : 19 ≤ length held) (faultless : header_fault
       sym (take-append-drop 16 held)
       ∙ ap (λ (xs : List ℕ). take 16 held ++ xs)
       (
-        sym (take-append-drop 2 (drop 16 held))
-        ∙ ap (λ (xs : List ℕ). length_octets held ++ xs) (drop-drop 2 16 held ∙ drop-cons held 18 0 (omega arith))
+      sym (take-append-drop 2 (drop 16 held))
+      ∙ ap (λ (xs : List ℕ). length_octets held ++ xs) (drop-drop 2 16 held ∙ drop-cons held 18 0 (omega arith))
       )
 
   module _ (one : HoldsOne held) (there : length_field held ≤ length held) where
@@ -76,9 +76,10 @@ module _ (held : List ℕ) (long : 19 ≤ length held) (faultless : header_fault
         parts
         ∙ rw (marked, ← header.spelled, ← header.kind_is, told) refl
 
-    pub Hands-whole : (kind len : ℕ) → IsHeader held kind len → Hands held kind (drop 19 held)
+    pub Hands-whole : (kind len : ℕ) → IsHeader held kind len → Hands held kind len (drop 19 held)
     Hands-whole kind len header = record {
       whole = size;
       message = message_is kind len header;
+      count = omega (arith, length-drop 19 held, exact, header.len_is);
       empty = let e = size in rw (e, after_next) (sym (drop-length held));
     }

@@ -1,10 +1,14 @@
 -- The first fault of a header, at each check.
-use Rattle.std.proofs.Common.{◌≡◌, ℕ, Bool, true, false, List, [], ◌∷◌, Some, None, refl, sym, ap, ◌∙◌}
+use Rattle.std.proofs.Common.{◌≡◌, ◌≤◌, ltb, arith, ℕ, Bool, true, false, List, [], ◌∷◌, Some, None, refl, sym, ap, ◌∙◌}
 use Rattle.std.specs.Int.{w16, to_be_bytes}
-use Rattle.std.proofs.lemmas.Bool.{not_from_true}
+use Rattle.std.proofs.lemmas.Bool.{not_from_true, or_parts, ltb-false}
 use Rattle.rcp_model.specs.Messages.{FaultOf, fault, has_marker, length_octets, length_field, type_field, is_outside, least_length, greatest_length, header_fault}
-use Rattle.rcp_model.proofs.ReadingLemmas.{header_fault-None}
-use Rattle.bgp_msg.specs.HeaderFields.{IsHeader}
+use Rattle.rcp_model.proofs.ReadingLemmas.{header_fault-None, header_passes}
+use Rattle.bgp_msg.specs.HeaderFields.{IsHeader, IsLengthOf}
+
+-- a number that isn't outside is within
+bounds_of : (low high n : ℕ) → is_outside low high n ≡ false → (low ≤ n) × (n ≤ high)
+bounds_of low high n e = let sides = or_parts (ltb n low) (ltb high n) e in (ltb-false _ _ sides.0, ltb-false _ _ sides.1)
 
 abbrev bad_length : List ℕ → FaultOf
 bad_length octets = fault 1 2 octets
@@ -61,3 +65,27 @@ module _ (octets : List ℕ) (marked : has_marker octets ≡ true) where
     no_fault within known e =
         header_fault-None octets
         (not_from_true (has_marker octets) marked, (same_length ∙ within, (same_type ∙ known, (same_bounds ∙ e, tt))))
+
+-- ---- the lengths of a header without a fault
+
+module _ (octets : List ℕ) (kind len : ℕ) (read : IsHeader octets kind len) (faultless : header_fault octets ≡ None) where
+  -- where the type is known, so are its bounds
+  bounds_at : (k : ℕ) → kind ≡ k → is_outside (least_length k) (greatest_length k) len ≡ false
+  bounds_at k is =
+      ap (λ (n : ℕ). is_outside (least_length k) (greatest_length k) n) read.len_is
+      ∙ ap (λ (j : ℕ). is_outside (least_length j) (greatest_length j) (length_field octets)) (sym is ∙ read.kind_is)
+      ∙ (header_passes octets faultless).1.1.1.0
+
+  pub IsLengthOf-faultless : IsLengthOf kind len
+  IsLengthOf-faultless =
+      let all = bounds_of 19 4096 (length_field octets) (header_passes octets faultless).1.0 in
+      let types = bounds_of 1 4 (type_field octets) (header_passes octets faultless).1.1.0 in
+      record {
+        known = (omega (arith, types.0, read.kind_is), omega (arith, types.1, read.kind_is));
+        least = omega (arith, all.0, read.len_is);
+        most = omega (arith, all.1, read.len_is);
+        opening = λ is. (bounds_of 29 4096 len (bounds_at 1 is)).0;
+        update = λ is. (bounds_of 23 4096 len (bounds_at 2 is)).0;
+        notification = λ is. (bounds_of 21 4096 len (bounds_at 3 is)).0;
+        keepalive = λ is. let both = bounds_of 19 19 len (bounds_at 4 is) in omega (arith, both.0, both.1);
+      }

@@ -1,5 +1,5 @@
 -- When something waits in front of the octets that a cutter holds.
-use Rattle.std.proofs.Common.{◌≡◌, ℕ, ◌<◌, ◌≤◌, ◌⊎◌, inl, inr, ⊎_elim, Bool, true, false, leb, leb-true, leb-false, le-leb, List, length, Option, Some, None, refl, sym, ap, ◌∙◌}
+use Rattle.std.proofs.Common.{◌≡◌, ℕ, ◌<◌, ◌≤◌, ◌⊎◌, inl, inr, ⊎_elim, Bool, true, false, leb, leb-true, leb-false, le-leb, List, length, Some, None, refl, sym, ◌∙◌}
 use Rattle.std.proofs.lemmas.Bool.{lt-leb, false≢true}
 use Rattle.std.proofs.lemmas.Option.{none-some}
 use Rattle.rcp_model.specs.Messages.{FaultOf, header_fault, length_field, message_size}

@@ -7,3 +7,7 @@ pub mod HeaderFaults
 pub mod Holding
 pub mod Feeding
 pub mod Handing
+pub mod Cuts
+pub mod Parameters
+pub mod OpenFaults
+pub mod Offers

@@ -1,5 +1,5 @@
 -- A section of prefixes, walked from its front.
-use Rattle.std.proofs.Common.{◌≡◌, ℕ, suc, ◌+◌, ◌<◌, ◌≤◌, cond, eqb, leb, ◌&&◌, Bool, true, false, List, [], ◌∷◌, length, take, drop, Option, Some, None, refl, sym, ap, ◌∙◌, arith, leb-true, length-take-le}
+use Rattle.std.proofs.Common.{◌≡◌, ℕ, suc, ◌+◌, cond, eqb, leb, ◌&&◌, Bool, true, false, List, [], ◌∷◌, length, take, drop, Option, Some, None, refl, sym, ap, ◌∙◌, arith, leb-true, length-take-le}
 use Rattle.std.specs.Prelude.{option_map, filter_map, is_none}
 use Rattle.std.specs.List.{cons_option}
 use Rattle.std.proofs.Math.Seq.{take-length}
@@ -7,7 +7,6 @@ use Rattle.std.proofs.lemmas.Bool.{and_parts}
 use Rattle.std.proofs.lemmas.Option.{none-some, cond_some}
 use Rattle.rcp_base.specs.IpPrefix.{IpPrefix, masked, octets_for, address_of_octets, prefix_at}
 use Rattle.rcp_base.proofs.PrefixLemmas.{prefix_at-cons}
-use Rattle.rcp_model.specs.Cut.{cut}
 use Rattle.rcp_model.specs.Messages.{FaultOf, fault}
 use Rattle.rcp_model.specs.Updates.{prefix_size, prefixes_in, prefixes_fault}
 use Rattle.rcp_model.proofs.CutLemmas.{cut-front, cut-stop}

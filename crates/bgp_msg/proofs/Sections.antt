@@ -1,6 +1,6 @@
 -- The sections of an UPDATE, split off one after another.
-use Rattle.std.proofs.Common.{◌≡◌, ℕ, Bool, true, false, cond, ◌&&◌, List, Option, Some, None, refl, sym, ap, ◌∙◌}
-use Rattle.std.proofs.lemmas.Bool.{and_from, and_left, and_right}
+use Rattle.std.proofs.Common.{◌≡◌, ℕ, true, false, ◌&&◌, List, Some, None, refl, sym, ap, ◌∙◌}
+use Rattle.std.proofs.lemmas.Bool.{and_left, and_right}
 use Rattle.rcp_model.specs.Updates.{Sections, section, after_section, has_section, sections_of}
 
 none_unless : (body : List ℕ) → (has_section body && has_section (after_section body)) ≡ false → sections_of body ≡ None

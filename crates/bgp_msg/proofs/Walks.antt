@@ -1,12 +1,12 @@
 -- A walk over the prefixes of a section, by places.
-use Rattle.std.proofs.Common.{◌≡◌, ℕ, ◌+◌, ◌≤◌, cond, eqb, Bool, true, false, List, [], ◌∷◌, length, drop, Option, Some, None, refl, sym, ap, ◌∙◌, arith, length-drop, subst}
+use Rattle.std.proofs.Common.{◌≡◌, ℕ, ◌+◌, ◌≤◌, cond, eqb, Bool, true, false, List, [], ◌∷◌, length, drop, Some, None, refl, sym, ap, ◌∙◌, arith, length-drop}
 use Rattle.std.proofs.lemmas.Bool.{eqb-true}
-use Rattle.std.proofs.lemmas.List.{drop-drop, nil_from_length}
+use Rattle.std.proofs.lemmas.List.{drop-drop}
 use Rattle.std.proofs.lemmas.Option.{none-some}
 use Rattle.rcp_base.specs.IpPrefix.{IpPrefix, prefix_at}
 use Rattle.rcp_model.specs.Messages.{FaultOf, fault}
 use Rattle.rcp_model.specs.Updates.{prefixes_in, prefixes_fault}
-use Rattle.bgp_msg.proofs.Prefixes.{fault_of, prefixes_in-front, prefixes_in-none}
+use Rattle.bgp_msg.proofs.Prefixes.{prefixes_in-front, prefixes_in-none}
 
 fault_of_some : (b : Bool) (f : FaultOf) → cond b None (Some f) ≡ None → b ≡ true
 fault_of_some true f e = refl

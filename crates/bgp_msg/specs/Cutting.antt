@@ -1,6 +1,6 @@
 -- What a cutter holds of a stream, what its calls do to it, and what a reader who gives it pieces of a stream is given.
-use Rattle.std.specs.Prelude.{◌≡◌, ◌≢◌, ℕ, ◌-◌, ◌<◌, ◌≤◌, Bool, true, false, ◌||◌, ◌⊎◌, List, [], ◌∷◌, ◌++◌, length, take, drop, Option, Some, None, is_some, nat_le, if◌then◌else◌}
-use Rattle.std.specs.List.{concat, AllByRecursion}
+use Rattle.std.specs.Prelude.{◌≡◌, ◌≢◌, ℕ, ◌<◌, ◌≤◌, Bool, true, false, ◌||◌, ◌⊎◌, List, [], ◌∷◌, ◌++◌, length, take, drop, Option, Some, None, is_some, nat_le, if◌then◌else◌}
+use Rattle.std.specs.List.{concat}
 use Rattle.rcp_model.specs.Messages.{FaultOf, header_fault, length_field, message_size}
 
 -- ---- what is held: the octets that came and weren't handed out

@@ -1,3 +1,4 @@
+pub mod Opened
 pub mod Faults
 pub mod HeaderFields
 pub mod Written

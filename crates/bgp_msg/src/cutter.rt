@@ -1,11 +1,12 @@
 //! Messages out of a stream of octets that comes in any pieces.
 
-ghost use Rattle.std.specs.Prelude.{◌≡◌, ◌+◌, ◌-◌, ◌≤◌, ◌++◌, [], Some, false, length, take, min, MatchOption, MatchResult};
+ghost use Rattle.std.specs.Prelude.{◌≡◌, ◌+◌, ◌-◌, ◌≤◌, ◌++◌, [], Some, false, length, take, min, IfOk, IfSome, MatchOption, MatchResult};
 ghost use Rattle.std.specs.Borrow.{sem};
 ghost use Rattle.rcp_model.specs.Messages.{message_size, message_octets};
 ghost use Rattle.path_attrs.specs.Refusals.{fault_in};
 ghost use Rattle.bgp_fault.specs.Faults.{IsWithin};
 ghost use Rattle.bgp_msg.specs.Cutting.{is_waiting, waiting_fault};
+ghost use Rattle.bgp_msg.specs.HeaderFields.{IsLengthOf};
 
 use crate::header::{HEADER_LEN, MOST_OCTETS, read_header};
 use crate::put::put;
@@ -78,9 +79,10 @@ impl Cutter {
     pub fn next(&mut self) -> Result<Option<Message<'_>>, Fault>
         ensures given { MatchResult result
             (λ found. MatchOption found
-                (is_waiting self.old ≡ false)
-                (λ m. (message_size self.old ≡ Some (length self.old)) × (self.old ≡ message_octets m.kind m.body.now)))
+            (is_waiting self.old ≡ false)
+            (λ m. (message_size self.old ≡ Some (length self.old)) × (self.old ≡ message_octets m.kind m.body.now)))
             (λ fault. (waiting_fault self.old ≡ Some (fault_in [] fault)) × IsWithin [] fault.extra) }
+        ensures lengths { IfOk result (λ found. IfSome found (λ m. IsLengthOf m.kind (19 + length m.body.now))) }
         ensures* after { sem 𝓛 (EndsAs self.entry) }
     {
         let (held, _) = self.buffer.split_at(self.len);

@@ -5,7 +5,7 @@ ghost use Rattle.rcp_model.specs.Messages.{header_fault, has_marker, is_outside,
 ghost use Rattle.path_attrs.specs.Refusals.{fault_in};
 ghost use Rattle.bgp_fault.specs.Faults.{IsWithin};
 ghost use Rattle.bgp_msg.specs.Faults.{header_error};
-ghost use Rattle.bgp_msg.specs.HeaderFields.{IsHeader};
+ghost use Rattle.bgp_msg.specs.HeaderFields.{IsHeader, IsLengthOf};
 
 use bgp_fault::{
     BAD_MESSAGE_LENGTH, BAD_MESSAGE_TYPE, CONNECTION_NOT_SYNCHRONIZED, Data, Fault,
@@ -49,6 +49,7 @@ pub fn read_header(octets: &[u8]) -> Result<Header, Fault>
     requires { 19 ≤ length octets.now }
     ensures faultless { OnOk result (header_fault octets.now ≡ None) }
     ensures fields { IfOk result (λ header. IsHeader octets.now header.kind header.len) }
+    ensures lengths { IfOk result (λ header. IsLengthOf header.kind header.len) }
     ensures fault { IfErr result (λ fault. (header_fault octets.now ≡ Some (fault_in [] fault)) × IsWithin [] fault.extra) }
 {
     if !has_marker(octets) {

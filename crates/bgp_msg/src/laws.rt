@@ -1,10 +1,12 @@
 //! Laws of reading and writing together. Each is the contract of a function that does nothing.
 
-ghost use Rattle.std.specs.Prelude.{◌≡◌, ℕ, ◌≤◌, List, ◌∷◌, ◌++◌, [], length, drop, Some, None};
+ghost use Rattle.std.specs.Prelude.{◌≡◌, ℕ, ◌<◌, ◌≤◌, ◌^◌, Bool, true, false, List, ◌∷◌, ◌++◌, [], length, drop, Some, None, if◌then◌else◌};
 ghost use Rattle.std.specs.List.{AllByRecursion, flat_map};
 ghost use Rattle.rcp_base.specs.IpPrefix.{IpPrefix, IsPrefix, prefix_octets};
-ghost use Rattle.rcp_model.specs.Messages.{FaultOf, type_field, IsMessage, messages_in};
+ghost use Rattle.rcp_model.specs.Messages.{FaultOf, fault, type_field, IsMessage, messages_in};
 ghost use Rattle.rcp_model.specs.Updates.{sections_of, prefixes_in, prefixes_fault, update_octets};
+ghost use Rattle.rcp_model.specs.Opens.{OpenFields, open_fields, open_octets, open_fault, is_short_hold};
+ghost use Rattle.bgp_msg.specs.Opened.{IsOffer, fault_but_identifier, is_behind_identifier};
 ghost use Rattle.bgp_msg.specs.Written.{keepalive_octets, notification_octets};
 
 /// A KEEPALIVE that is written is read again, whatever follows it.
@@ -43,4 +45,25 @@ pub fn written_update_is_read_again()
     ensures again { (withdrawn announced : List IpPrefix) (attributes more : List ℕ)
         → length (update_octets withdrawn attributes announced) ≤ 4096
         → messages_in (update_octets withdrawn attributes announced ++ more) ≡ update_octets withdrawn attributes announced ∷ messages_in more }
+{}
+
+/// An OPEN that is written is read again, whatever follows it, by a reader who wants its AS. Its one fault is a hold time
+/// of 1 or 2 seconds.
+pub fn written_open_is_read_again()
+    ensures whole { (offer : OpenFields) → IsMessage (open_octets offer) }
+    ensures kind { (offer : OpenFields) → type_field (open_octets offer) ≡ 1 }
+    ensures fields { (offer : OpenFields) → IsOffer offer → open_fields (drop 19 (open_octets offer)) ≡ offer }
+    ensures fault { (offer : OpenFields) (knows : ℕ → Bool) → IsOffer offer → knows offer.id ≡ true
+        → open_fault knows offer.as_number (drop 19 (open_octets offer)) ≡ (if is_short_hold offer.hold then Some (fault 2 6 []) else None) }
+    ensures again { (offer : OpenFields) (more : List ℕ) → messages_in (open_octets offer ++ more) ≡ open_octets offer ∷ messages_in more }
+{}
+
+/// Where the BGP Identifiers are known that are wanted, the first fault of an OPEN is another identifier exactly where
+/// there is no fault otherwise, or one that comes behind it: those of the parameters. Else it is the fault otherwise.
+pub fn identifier_comes_before_parameters()
+    ensures { (knows : ℕ → Bool) (as_number : ℕ) (body : List ℕ)
+        → open_fault knows as_number body
+        ≡ (if is_behind_identifier (fault_but_identifier as_number body)
+        then (if knows (open_fields body).id then fault_but_identifier as_number body else Some (fault 2 3 []))
+        else fault_but_identifier as_number body) }
 {}

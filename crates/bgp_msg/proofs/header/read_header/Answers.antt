@@ -1,6 +1,6 @@
 -- Each check is that of the definition, in its order.
 use Rattle.std.proofs.Common.{◌∙◌, sym}
-use Rattle.bgp_msg.proofs.HeaderFaults.{marker_fault, length_fault, type_fault, bounds_fault, no_fault}
+use Rattle.bgp_msg.proofs.HeaderFaults.{marker_fault, length_fault, type_fault, bounds_fault, no_fault, IsLengthOf-faultless}
 use Rattle.bgp_msg.proofs.header.read_header.Goals as goal
 
 pub returns-then-not-has_marker-clause-fault : goal.returns-then-not-has_marker-clause-fault
@@ -35,3 +35,11 @@ returns-clause-faultless c =
     let known = sym c.is_unknown.ensures ∙ c.if-is_unknown.false in
     let inside = sym c.has_other_length.ensures ∙ c.if-has_other_length.false in
     no_fault c.args.octets.now marked _ _ c.header_of-header.ensures within known inside
+
+pub returns-clause-lengths : goal.returns-clause-lengths
+returns-clause-lengths c =
+    let marked = sym c.has_marker.ensures ∙ c.if-not-has_marker.false in
+    let within = sym c.is_outside.ensures ∙ c.if-is_outside.false in
+    let known = sym c.is_unknown.ensures ∙ c.if-is_unknown.false in
+    let inside = sym c.has_other_length.ensures ∙ c.if-has_other_length.false in
+    IsLengthOf-faultless c.args.octets.now _ _ c.header_of-header.ensures (no_fault c.args.octets.now marked _ _ c.header_of-header.ensures within known inside)

@@ -1,5 +1,5 @@
 -- The pieces that are put one behind the other are the octets of the UPDATE.
-use Rattle.std.proofs.Common.{rules, arith, ◌≡◌, ℕ, ◌++◌, take, length, ap}
+use Rattle.std.proofs.Common.{arith, ◌≡◌, length}
 use Rattle.std.specs.List.{flat_map}
 use Rattle.rcp_base.specs.IpPrefix.{prefix_octets}
 use Rattle.bgp_msg.proofs.Lengths.{length-update_octets, pieces-update_octets}
