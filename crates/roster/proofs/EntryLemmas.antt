@@ -1,12 +1,11 @@
 -- What the entries of the map of identifiers say of the list of members.
-use Rattle.std.proofs.Common.{true≢false, if◌then◌else◌, length-append, ◌≡◌, ℕ, suc, ◌+◌, ◌<◌, ◌≤◌, lt-ltb, le-ltb, Bool, true, false, not, cond, eqb, nat_lt, ◌||◌, List, [], ◌∷◌, ◌++◌, map, length, position, Option, Some, None, is_some, option_map, refl, sym, ap, ◌∙◌, arith}
+use Rattle.std.proofs.Common.{true≢false, if◌then◌else◌, length-append, ◌≡◌, ℕ, suc, ◌+◌, Bool, true, false, not, cond, eqb, nat_lt, ◌||◌, List, [], ◌∷◌, ◌++◌, map, length, position, Option, Some, None, is_some, refl, sym, ap, ◌∙◌, arith}
 use Rattle.std.specs.List.{list_any, prefix_len}
-use Rattle.std.proofs.lemmas.Bool.{eqb-true, eq-eqb, ltb-true, ltb-false}
+use Rattle.std.proofs.lemmas.Bool.{eqb-true, eq-eqb}
 use Rattle.std.proofs.lemmas.List.{map-append}
 use Rattle.std.specs.Map.{keys_of, lookup}
 use Rattle.std.specs.Option.{option_to_list}
 use Rattle.indexmap.specs.IndexSet.{insert_key}
-use Rattle.rcp_model.specs.Meaning.{slot_from}
 use Rattle.std.proofs.lemmas.Map.Made.{is_some-lookup}
 use Rattle.rcp_base.specs.declared.names.Member.{Member}
 use Rattle.rcp_base.specs.Roster.{has_router, has_identifier}
@@ -102,39 +101,3 @@ module _ (eq : ℕ → ℕ → Bool) (same : (a b : ℕ) → eq a b ≡ eqb a b)
 
   pub router-new : (es : List (ℕ × ℕ)) (members : List Member) (router : ℕ) → map member_of es ≡ members → has_router members router ≡ false → lookup (eq router) es ≡ None
   router-new es members router view new = none-found (lookup (eq router) es) (router-found eq same router es ∙ ap (λ (ms : List Member). has_router ms router) view ∙ new)
-
--- ---- the slot of a router
-
-step : (k n : ℕ) → cond (nat_lt (1 + k) (suc n)) (Some (1 + k)) None ≡ option_map (λ m. m + 1) (cond (nat_lt k n) (Some k) None)
-step k n = by (nat_lt k n) refl
-  where
-    by : (t : Bool) → nat_lt k n ≡ t → cond (nat_lt (1 + k) (suc n)) (Some (1 + k)) None ≡ option_map (λ m. m + 1) (cond (nat_lt k n) (Some k) None)
-    by true e = let h : k < n = ltb-true k n e in rw (e, lt-ltb (1 + k) (suc n) (omega arith)) (ap Some (omega arith))
-    by false e = let h : n ≤ k = ltb-false k n e in rw (e, le-ltb (1 + k) (suc n) (omega arith)) refl
-
--- what `position` is of one more at the front
-place-cons : {X : Type 0} (p : X → Bool) (x : X) (xs : List X) → position p (x ∷ xs) ≡ cond (p x) (Some 0) (option_map (λ n. n + 1) (position p xs))
-place-cons p x xs = by (p x) refl
-  where
-    by : (t : Bool) → p x ≡ t → position p (x ∷ xs) ≡ cond (p x) (Some 0) (option_map (λ n. n + 1) (position p xs))
-    by true e = rw e (ap (λ t. cond t (Some 0) None) (lt-ltb 0 (suc (length xs)) (omega arith)))
-    by false e = rw e (step (prefix_len (λ x. not (p x)) xs) (length xs))
-
-moved : (slot : ℕ) (here : Bool) (o : Option ℕ) → cond here (Some slot) (option_map (λ n. slot + 1 + n) o) ≡ option_map (λ n. slot + n) (cond here (Some 0) (option_map (λ n. n + 1) o))
-moved slot true o = ap Some (omega arith)
-moved slot false None = refl
-moved slot false (Some n) = ap Some (omega arith)
-
-slot-place : (members : List Member) (slot router : ℕ) → slot_from slot members router ≡ option_map (λ n. slot + n) (position (λ m. eqb m.router router) members)
-slot-place [] slot router = refl
-slot-place (m ∷ members) slot router =
-    ap (λ o. cond (eqb m.router router) (Some slot) o) (slot-place members (slot + 1) router)
-    ∙ moved slot (eqb m.router router) (position (λ m. eqb m.router router) members)
-    ∙ ap (option_map (λ n. slot + n)) (sym (place-cons (λ (m : Member). eqb m.router router) m members))
-
-same-some : (o : Option ℕ) → option_map (λ n. 0 + n) o ≡ o
-same-some None = refl
-same-some (Some n) = ap Some (omega arith)
-
-pub first-slot : (members : List Member) (router : ℕ) → slot_from 0 members router ≡ position (λ m. eqb m.router router) members
-first-slot members router = slot-place members 0 router ∙ same-some (position (λ m. eqb m.router router) members)

@@ -13,7 +13,7 @@ edges-again : (edges : List Edge) → edges ≡ map edge_of (map link_of edges)
 edges-again [] = refl
 edges-again (e ∷ edges) = ap (λ (es : List Edge). e ∷ es) (edges-again edges)
 
-abbrev of_parts : Settings → List Member → List Edge → RosterOf
+abbrev pub of_parts : Settings → List Member → List Edge → RosterOf
 of_parts settings members links = record {
   as_number = settings.as_number;
   id = settings.id;

@@ -1,5 +1,5 @@
 -- What taking a line gives.
-use Rattle.std.specs.Prelude.{◌≡◌, Result, Ok, Err}
+use Rattle.std.specs.Prelude.{◌≡◌, Some, Result, Ok, Err}
 use Rattle.rcp_base.specs.declared.kinds.RosterWhy.{RosterWhy}
 use Rattle.rcp_base.specs.Checks.{unless}
 use Rattle.rcp_base.specs.Roster.{Line, Named, RosterOf, line_fault, with_line}
@@ -27,3 +27,10 @@ settled settings named = record {
   members = named.members;
   links = named.links;
 }
+
+-- these settings are the ones that are named
+pub record AreNamed (settings : Settings) (named : Named) : Type 0 where
+  pub as_number : named.as_number ≡ Some settings.as_number
+  pub id : named.id ≡ Some settings.id
+  pub shards : named.shards ≡ Some settings.shards
+  pub hold : named.hold ≡ Some settings.hold

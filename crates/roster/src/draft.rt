@@ -1,9 +1,9 @@
 //! What the lines before have named, and the judgement of the next one.
 
-ghost use Rattle.std.specs.Prelude.{◌≡◌, ◌==◌, Some, None, OnOk, MatchOption};
+ghost use Rattle.std.specs.Prelude.{◌≡◌, ◌==◌, Some, None, OnOk, IfSome, MatchOption};
 ghost use Rattle.rcp_base.specs.Roster.{Router, Link, nothing_named, repeats, is_unknown, is_beyond, line_fault, with_line, with_any_text, is_skipped, completed};
 ghost use Rattle.roster.specs.Lines.{said_of};
-ghost use Rattle.roster.specs.Drafts.{Takes, TakesLine, settled};
+ghost use Rattle.roster.specs.Drafts.{Takes, TakesLine, settled, AreNamed};
 
 use crate::lines::{Line, read_line};
 use crate::members::{MOST_MEMBERS, Members};
@@ -80,7 +80,8 @@ impl Draft {
 
     /// The settings, where all of them are named.
     pub fn settings(&self) -> Option<Settings>
-        ensures { MatchOption result (completed self.now ≡ None) (λ settings. completed self.now ≡ Some (settled settings self.now)) }
+        ensures value { MatchOption result (completed self.now ≡ None) (λ settings. completed self.now ≡ Some (settled settings self.now)) }
+        ensures named { IfSome result (λ settings. AreNamed settings self.now) }
     {
         Some(Settings {
             as_number: self.as_number?,

@@ -1,6 +1,7 @@
 //! Reading a roster from its text.
 
 ghost use Rattle.std.specs.Prelude.{◌≡◌, ◌≤◌, length, None, Some, MatchResult};
+ghost use Rattle.roster.specs.Form.{NamedInForm};
 ghost use Rattle.roster.specs.Rosters.{Reads, Completes, IsRefusal};
 
 use crate::draft::Draft;
@@ -30,6 +31,7 @@ pub fn read(alloc: Global, text: &[u8]) -> Result<Roster, RosterRefusal>
 
 /// The roster that is named, where all settings are. A setting that isn't is missing at this line.
 fn complete(draft: Draft, line: u32) -> Result<Roster, RosterRefusal>
+    requires { NamedInForm draft }
     ensures { Completes draft line result }
 {
     let Some(settings) = draft.settings() else {

@@ -2,6 +2,7 @@
 
 ghost use Rattle.std.specs.Prelude.{◌≡◌, ◌<◌, ◌≤◌, ◌==◌, length, Some, slice_get, position, IfSome};
 ghost use Rattle.rcp_model.specs.Meaning.{slot_from};
+ghost use Rattle.roster.specs.Form.{IsAsNumber, IsShardCount, IsHoldTime, InForm};
 
 use crate::members::Members;
 use rcp_base::{Addr, Member, RouterId, Slot};
@@ -28,17 +29,20 @@ pub struct Roster {
 
 impl Model for Roster {
     ghost use Rattle.rcp_model.specs.Feed.{RosterOf};
+    ghost use Rattle.roster.specs.Form.{InForm};
 
     ghost Value = { RosterOf };
 
     ghost view = { λ r. record { as_number = r.settings.as_number; id = r.settings.id; shards = r.settings.shards; hold = r.settings.hold; area = r.settings.area; members = r.members; links = r.links.items } };
+
+    ghost invariant = { λ r. InForm (record { as_number = r.settings.as_number; id = r.settings.id; shards = r.settings.shards; hold = r.settings.hold; area = r.settings.area; members = r.members; links = r.links.items }) };
 }
 
 impl Roster {
     /// The number of the platform's autonomous system: 1 to 65535, not 23456.
     pub fn as_number(&self) -> u32
         ensures value { result ≡ self.now.as_number }
-        ensures within { result ≤ 65535 }
+        ensures within { IsAsNumber result }
     {
         u32::from(self.settings.as_number)
     }
@@ -53,13 +57,15 @@ impl Roster {
     /// How many shards the prefixes are parted into: 1 to 64.
     pub fn shards(&self) -> u16
         ensures value { result ≡ self.now.shards }
+        ensures within { IsShardCount result }
     {
         self.settings.shards
     }
 
     /// The hold time that the platform offers, in seconds: 0, or 3 to 65535 (RFC 4271 section 4.2).
     pub fn hold(&self) -> u16
-        ensures { result ≡ self.now.hold }
+        ensures value { result ≡ self.now.hold }
+        ensures within { IsHoldTime result }
     {
         self.settings.hold
     }
@@ -71,18 +77,21 @@ impl Roster {
         self.settings.area.0
     }
 
-    /// How many routers there are: 0 to 512.
+    /// How many routers there are: 0 to 512. The call also tells a proof that the roster is in form.
     pub fn len(&self) -> u16
         ensures len { result ≡ length self.now.members }
         ensures few { result ≤ 512 }
+        ensures form { InForm self.now }
     {
         self.members.len() as u16
     }
 
-    /// The router at a slot.
+    /// The router at a slot. No other has its router ID or its BGP Identifier.
     pub fn member(&self, slot: Slot) -> Member
         requires { slot < length self.now.members }
-        ensures { slice_get self.now.members slot ≡ Some result }
+        ensures value { slice_get self.now.members slot ≡ Some result }
+        ensures router { slot_from 0 self.now.members result.router ≡ Some slot }
+        ensures identifier { position (λ member. member.bgp_id == result.bgp_id) self.now.members ≡ Some slot }
     {
         self.members.get(slot)
     }
