@@ -52,7 +52,7 @@ within_form : (low high : ℕ) (text : List ℕ) → IfSome (number_within low h
 within_form low high text =
     then_form (λ n. cond (nat_le low n && nat_le n high) (Some n) None) (Within low high)
     (λ n. cond_both (nat_le low n && nat_le n high) (Some n) None (λ o. IfSome o (Within low high))
-      (λ e. let b = both_true (nat_le low n) (nat_le n high) e in (leb-true low n b.0, leb-true n high b.1)) (λ _. tt))
+    (λ e. let b = both_true (nat_le low n) (nat_le n high) e in (leb-true low n b.0, leb-true n high b.1)) (λ _. tt))
     (number_of text)
 
 except_form : (out : ℕ) (P : ℕ → Type 0) (o : Option ℕ) → IfSome o P → IfSome (except out o) (λ n. P n × (n ≢ out))
@@ -172,7 +172,11 @@ not_false false e = absurd (true≢false e)
 kept : (named : Named) (line : Line) → NamedInForm named → LineInForm line → IsFaultless named line → NamedInForm (with_line named line)
 kept named (As n) form said none = record { as_number = said; shards = form.shards; hold = form.hold; members = form.members; own = form.own; links = form.links }
 kept named (Id a) form said none = record {
-  as_number = form.as_number; shards = form.shards; hold = form.hold; members = form.members; links = form.links;
+  as_number = form.as_number;
+  shards = form.shards;
+  hold = form.hold;
+  members = form.members;
+  links = form.links;
   own = (none_true (is_some named.id) (has_identifier named.members a) none.once).1;
 }
 kept named (Shards n) form said none = record { as_number = form.as_number; shards = said; hold = form.hold; members = form.members; own = form.own; links = form.links }
@@ -183,7 +187,9 @@ kept named (Router router id) form said none =
     let first = none_true (has_router named.members router || has_identifier named.members id) (is_value id named.id) none.once in
     let names = none_true (has_router named.members router) (has_identifier named.members id) first.0 in
     record {
-      as_number = form.as_number; shards = form.shards; hold = form.hold;
+      as_number = form.as_number;
+      shards = form.shards;
+      hold = form.hold;
       members = more_members named.members m form.members names.0 names.1 none.few;
       own = still_own named.members m named.id form.own first.1;
       links = still_links named.members (m ∷ []) named.links form.links;
@@ -197,12 +203,16 @@ kept named (Link u v cost) form said none =
     let one_more = All-push P named.links forth form.links (record { from = ends.0; to = ends.1; apart = apart; least = said.0; most = said.1 }) in
     let two_more = All-push P (named.links ++ forth ∷ []) back one_more (record { from = ends.1; to = ends.0; apart = λ e. apart (sym e); least = said.0; most = said.1 }) in
     record {
-      as_number = form.as_number; shards = form.shards; hold = form.hold; members = form.members; own = form.own;
+      as_number = form.as_number;
+      shards = form.shards;
+      hold = form.hold;
+      members = form.members;
+      own = form.own;
       links = subst (λ links. All P links) (append_assoc named.links (forth ∷ []) (back ∷ [])) two_more;
     }
 
 text_form : (named : Named) (said : Result Line RosterWhy) → NamedInForm named → SaysForm said
-    → IfOk {E = RosterWhy} (elim said [ | Ok line ↦ unless (line_fault named line) (with_line named line) | Err fault ↦ Err fault ]) NamedInForm
+    → IfOk {E = RosterWhy} (elim said [ Ok line ↦ unless (line_fault named line) (with_line named line) | Err fault ↦ Err fault ]) NamedInForm
 text_form named (Err fault) form said = tt
 text_form named (Ok line) form said = by (line_fault named line) refl
   where
@@ -216,7 +226,10 @@ line_kept named text form =
 
 pub none_named : NamedInForm nothing_named
 none_named = record {
-  as_number = tt; shards = tt; hold = tt; own = tt;
+  as_number = tt;
+  shards = tt;
+  hold = tt;
+  own = tt;
   members = record { few = omega arith; routers = λ i j d a b. absurd (omega arith); identifiers = λ i j d a b. absurd (omega arith) };
   links = λ k d h. absurd (omega arith);
 }

@@ -48,7 +48,7 @@ own_place name members slot m apart within e =
     let p : Member → Bool = λ x. eqb (name x) (name m) in
     let here : get_or members slot m ≡ m = get_or_from_slice_get members slot m m e in
     let is : position_or_len p members ≡ slot =
-        position_or_len_is p members slot m (omega arith)
-        (λ k before. ne_eqb (name (get_or members k m)) (name m) (λ same. apart k slot m before within (same ∙ ap name (sym here))))
-        (λ h. eq-eqb (name (get_or members slot m)) (name m) (ap name here)) in
+    position_or_len_is p members slot m (omega arith)
+    (λ k before. ne_eqb (name (get_or members k m)) (name m) (λ same. apart k slot m before within (same ∙ ap name (sym here))))
+    (λ h. eq-eqb (name (get_or members slot m)) (name m) (ap name here)) in
     ap (λ n. cond (nat_lt n (length members)) (Some n) None) is ∙ ap (λ t. cond t (Some slot) None) (lt-ltb slot (length members) within)

@@ -12,7 +12,7 @@ use std::marker::Model;
 pub const MOST_MEMBERS: usize = 512;
 
 /// The routers in the order of their lines. Contracts see the list of the members.
-#[derive(Drop)]
+#[derive(Debug, Drop)]
 pub struct Members {
     /// The BGP Identifier of each router ID.
     identifiers: IndexMap<RouterId, Addr>,

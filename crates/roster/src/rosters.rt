@@ -10,7 +10,7 @@ use rcp_model::Edge;
 use std::marker::Model;
 
 /// The values of the settings.
-#[derive(Clone, Copy)]
+#[derive(Clone, Copy, Debug, PartialEq, Eq)]
 pub struct Settings {
     pub as_number: u16,
     pub id: Addr,
@@ -20,7 +20,7 @@ pub struct Settings {
 }
 
 /// The routers that the platform speaks for, and the settings of its sessions.
-#[derive(Drop)]
+#[derive(Debug, Drop)]
 pub struct Roster {
     pub(crate) settings: Settings,
     pub(crate) members: Members,

@@ -312,6 +312,16 @@ fn a_large_roster_is_read(rt: HostRuntime) -> Result<(), Fail> {
     Ok(())
 }
 
+/// Takes what may be sent to threads and shared by them.
+fn crosses<T: Send + Sync>(_value: &T) {}
+
+#[test]
+fn a_roster_is_shared_by_threads(rt: HostRuntime) -> Result<(), Fail> {
+    let roster = roster_of(rt.alloc(), LINKED).map_err(|_| "a roster")?;
+    crosses(&roster);
+    Ok(())
+}
+
 #[test]
 fn a_refusal_is_told_in_one_line(rt: HostRuntime) -> Result<(), Fail> {
     let refusal = RosterRefusal::Fault {

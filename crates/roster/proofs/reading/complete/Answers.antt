@@ -16,4 +16,4 @@ returns c = (
 pub invariant_of-result : goal.invariant_of-result
 invariant_of-result c =
     settled_form c.in-Some.settings c.args.draft c.draft.inside.members c.draft.inside.links.items
-      (ap (λ (named : Named). named.members) c.draft.view_is) (ap (λ (named : Named). named.links) c.draft.view_is) c.in-Some.ensures.named c.requires
+    (ap (λ (named : Named). named.members) c.draft.view_is) (ap (λ (named : Named). named.links) c.draft.view_is) c.in-Some.ensures.named c.requires
