@@ -19,7 +19,7 @@ use Rattle.roster.specs.Edges.{link_of}
 use Rattle.roster.specs.Drafts.{AreNamed}
 use Rattle.roster.specs.declared.rosters.Settings.{Settings}
 use Rattle.roster.proofs.RosterLemmas.{of_parts}
-use Rattle.roster.specs.Form.{InForm, IsAsNumber, IsShardCount, IsHoldTime, AreMembers, IsLinkOf, NamedInForm}
+use Rattle.roster.specs.Form.{IsNamed, InForm, IsAsNumber, IsShardCount, IsHoldTime, AreMembers, IsLinkOf, NamedInForm}
 
 -- ---- lines in form
 
@@ -29,7 +29,7 @@ LineInForm (Id a) = Unit {0}
 LineInForm (Shards n) = IsShardCount n
 LineInForm (Hold n) = IsHoldTime n
 LineInForm (Area a) = Unit {0}
-LineInForm (Router router id) = Unit {0}
+LineInForm (Router router id) = (router ≢ 0) × (id ≢ 0)
 LineInForm (Link u v cost) = (1 ≤ cost) × (cost ≤ 65535)
 
 abbrev Within : ℕ → ℕ → ℕ → Type 0
@@ -84,9 +84,12 @@ one_form : (line : ℕ → Line) (o : Option ℕ) → IfSome o (λ n. LineInForm
 one_form line None h = tt
 one_form line (Some n) h = h
 
-router_form : (a b : Option ℕ) → SaysForm (two Router a b)
-router_form None b = tt
-router_form (Some a) b = one_form (Router a) b (any_form b)
+router_form : (a b : Option ℕ) → IfSome a (λ n. n ≢ 0) → IfSome b (λ n. n ≢ 0) → SaysForm (two Router a b)
+router_form None b h g = tt
+router_form (Some a) b h g = one_form (Router a) b (IfSome_then b g (λ n other. (h, other)))
+
+name_form : (text : List ℕ) → IfSome (name_value text) (λ n. n ≢ 0)
+name_form text = IfSome_then (name_value text) (except_form 0 (λ _. Unit {0}) (address_of text) (any_form (address_of text))) (λ n h. h.1)
 
 link_form : (a b c : Option ℕ) → IfSome c (Within 1 65535) → SaysForm (three Link a b c)
 link_form None b c h = tt
@@ -108,7 +111,7 @@ words_form : (words : List (List ℕ)) → SaysForm (line_of_words words)
 words_form [] = tt
 words_form (word ∷ []) = tt
 words_form (word ∷ a ∷ []) = setting_form word a
-words_form (word ∷ a ∷ b ∷ []) = choice (bytes_eq word (codes "router")) _ (Err why.Word) (router_form (name_value a) (name_value b)) tt
+words_form (word ∷ a ∷ b ∷ []) = choice (bytes_eq word (codes "router")) _ (Err why.Word) (router_form (name_value a) (name_value b) (name_form a) (name_form b)) tt
 words_form (word ∷ a ∷ b ∷ c ∷ []) =
     choice (bytes_eq word (codes "link")) _ (Err why.Word) (link_form (address_of a) (address_of b) (number_within 1 65535 c) (within_form 1 65535 c)) tt
 words_form (word ∷ a ∷ b ∷ c ∷ d ∷ words) = tt
@@ -142,9 +145,10 @@ other_identifier : (members : List Member) (id : ℕ) → has_identifier members
 other_identifier members id e k d within same =
     true≢false (sym (list_any_at (λ (m : Member). eqb m.bgp_id id) members k d within (eq-eqb (get_or members k d).bgp_id id same)) ∙ e)
 
-more_members : (members : List Member) (m : Member) → AreMembers members → has_router members m.router ≡ false → has_identifier members m.bgp_id ≡ false
+more_members : (members : List Member) (m : Member) → AreMembers members → IsNamed m → has_router members m.router ≡ false → has_identifier members m.bgp_id ≡ false
     → nat_le 512 (length members) ≡ false → AreMembers (members ++ m ∷ [])
-more_members members m are router id few = record {
+more_members members m are named router id few = record {
+  names = All-push IsNamed members m are.names named;
   few = omega (arith, length-append members (m ∷ []), leb-false 512 (length members) few);
   routers = all_pairs_push (λ (a b : Member). a.router ≢ b.router) members m are.routers (other_router members m.router router);
   identifiers = all_pairs_push (λ (a b : Member). a.bgp_id ≢ b.bgp_id) members m are.identifiers (other_identifier members m.bgp_id id);
@@ -190,7 +194,7 @@ kept named (Router router id) form said none =
       as_number = form.as_number;
       shards = form.shards;
       hold = form.hold;
-      members = more_members named.members m form.members names.0 names.1 none.few;
+      members = more_members named.members m form.members (record { router = said.0; identifier = said.1 }) names.0 names.1 none.few;
       own = still_own named.members m named.id form.own first.1;
       links = still_links named.members (m ∷ []) named.links form.links;
     }
@@ -230,7 +234,7 @@ none_named = record {
   shards = tt;
   hold = tt;
   own = tt;
-  members = record { few = omega arith; routers = λ i j d a b. absurd (omega arith); identifiers = λ i j d a b. absurd (omega arith) };
+  members = record { few = omega arith; names = λ k d h. absurd (omega arith); routers = λ i j d a b. absurd (omega arith); identifiers = λ i j d a b. absurd (omega arith) };
   links = λ k d h. absurd (omega arith);
 }
 

@@ -21,8 +21,15 @@ pub record IsHoldTime (n : ℕ) : Type 0 where
   pub two : n ≢ 2
   pub most : n ≤ 65535
 
+-- 0.0.0.0 is no router's name
+pub record IsNamed (member : Member) : Type 0 where
+  pub router : member.router ≢ 0
+  pub identifier : member.bgp_id ≢ 0
+
+-- at most 512 routers, no two of one router ID or of one BGP Identifier
 pub record AreMembers (members : List Member) : Type 0 where
   pub few : length members ≤ 512
+  pub names : All IsNamed members
   pub routers : AllPairs (λ a b. a.router ≢ b.router) members
   pub identifiers : AllPairs (λ a b. a.bgp_id ≢ b.bgp_id) members
 
@@ -34,6 +41,7 @@ pub record IsLinkOf (members : List Member) (link : RosterLink) : Type 0 where
   pub least : 1 ≤ link.cost
   pub most : link.cost ≤ 65535
 
+-- the platform's own BGP Identifier is no router's
 pub record InForm (roster : RosterOf) : Type 0 where
   pub as_number : IsAsNumber roster.as_number
   pub shards : IsShardCount roster.shards
