@@ -118,6 +118,16 @@ fn a_later_record_is_refused_by_the_first_check_that_fails(rt: HostRuntime) -> R
             4,
             FeedWhy::ClockBack,
         ),
+        (
+            b"T\0\0\0\0\0\0\0\x08\0\0\0\0\0\0\x01\0T\0\0\0\x01\0\0\0\x08\0\0\0\0\0\0\0\xff".as_slice(),
+            4,
+            FeedWhy::BadBody,
+        ),
+        (
+            b"T\0\0\0\0\0\0\0\x08\0\0\0\0\0\0\x01\0T\0\0\0\0\0\0\0\x08\0\0\0\0\0\0\0".as_slice(),
+            4,
+            FeedWhy::Truncated,
+        ),
     ] {
         let mut feed = START.to_vec(alloc)?;
         feed.extend_from_slice(octets)?;
@@ -211,6 +221,26 @@ fn an_ended_connection_makes_room_for_another(rt: HostRuntime) -> Result<(), Fai
     let (_, refusal) = outcome(alloc, &feed)?;
     let why = FeedWhy::TooMany;
     assert_eq!(rt; refusal, Some(FeedRefusal::Feed { number: 4102, why }));
+    Ok(())
+}
+
+#[test]
+fn too_many_is_the_last_check_of_a_connection(rt: HostRuntime) -> Result<(), Fail> {
+    let alloc = rt.alloc();
+    for (connection, why) in [
+        (0, FeedWhy::BadBody),
+        (4096, FeedWhy::Twice),
+        (4097, FeedWhy::TooMany),
+    ] {
+        let mut feed = Vec::new(alloc);
+        frame(&mut feed, b'C', 0, &[])?;
+        for number in 1..=4096 {
+            frame(&mut feed, b'U', number, &[])?;
+        }
+        frame(&mut feed, b'U', connection, &[])?;
+        let (_, refusal) = outcome(alloc, &feed)?;
+        assert_eq!(rt; refusal, Some(FeedRefusal::Feed { number: 4098, why }));
+    }
     Ok(())
 }
 

@@ -1,0 +1,5 @@
+pub mod EntryLemmas
+pub mod SlotLemmas
+pub mod WordLemmas
+pub mod RosterLemmas
+pub mod FormLemmas

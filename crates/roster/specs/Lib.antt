@@ -1,0 +1,6 @@
+pub mod Edges
+pub mod Entries
+pub mod Lines
+pub mod Form
+pub mod Drafts
+pub mod Rosters

@@ -1,0 +1,45 @@
+-- The roster of a text, as the definitions of the route control server use it.
+use Rattle.std.specs.Prelude.{◌≡◌, ℕ, List, map, Some, None, Result, Ok, Err}
+use Rattle.rcp_base.specs.declared.kinds.RosterWhy.TheVariants as why
+use Rattle.rcp_base.specs.Roster.{RosterOf as Written, FaultyLine, Named, completed, roster_of}
+use Rattle.rcp_model.specs.Feed.{RosterOf}
+use Rattle.roster.specs.Edges.{edge_of}
+use Rattle.roster.specs.declared.refusal.Stop.{Stop}
+use Rattle.roster.specs.declared.refusal.Stop.TheVariants as stop
+use Rattle.roster.specs.declared.refusal.RosterRefusal.{RosterRefusal}
+use Rattle.roster.specs.declared.refusal.RosterRefusal.TheVariants as refusal
+
+abbrev pub with_edges : Written → RosterOf
+with_edges roster = record {
+  as_number = roster.as_number;
+  id = roster.id;
+  shards = roster.shards;
+  hold = roster.hold;
+  area = roster.area;
+  members = roster.members;
+  links = map edge_of roster.links;
+}
+
+abbrev pub edged : Result Written FaultyLine → Result RosterOf FaultyLine
+edged (Ok roster) = Ok (with_edges roster)
+edged (Err fault) = Err fault
+
+-- the roster of a text, or its first faulty line
+abbrev pub roster_in : List ℕ → Result RosterOf FaultyLine
+roster_in text = edged (roster_of text)
+
+-- what is read of a text is its roster, or its first faulty line
+abbrev pub Reads : List ℕ → Result RosterOf RosterRefusal → Type 0
+Reads text (Ok roster) = roster_in text ≡ Ok roster
+Reads text (Err (refusal.Fault line why)) = roster_in text ≡ Err (record { line = line; why = why })
+Reads text (Err refusal.NoMemory) = Unit {0}
+
+-- the roster of what is named, where no setting is missing at the line behind the last
+abbrev pub Completes : Named → ℕ → Result RosterOf RosterRefusal → Type 0
+Completes named line (Ok roster) = (written : Written) × (completed named ≡ Some written) × (roster ≡ with_edges written)
+Completes named line (Err refused) = (completed named ≡ None) × (refused ≡ refusal.Fault line why.Missing)
+
+-- the refusal that a stop at this line is
+abbrev pub IsRefusal : ℕ → Stop → RosterRefusal → Type 0
+IsRefusal line (stop.Fault why) refused = refused ≡ refusal.Fault line why
+IsRefusal line stop.NoMemory refused = refused ≡ refusal.NoMemory

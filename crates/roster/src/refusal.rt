@@ -1,0 +1,25 @@
+//! Why a text is no roster.
+
+ghost use Rattle.roster.specs.declared.refusal.Stop.TheVariants as stop;
+
+use rcp_base::{NoMemory, RosterWhy};
+use thiserror::Error;
+
+/// Why no roster is read.
+#[derive(Clone, Copy, Debug, PartialEq, Eq, Error)]
+pub enum RosterRefusal {
+    /// The line of this number, counted from 1 with the skipped ones, is the first faulty one. A setting that is absent
+    /// is a fault of the line behind the last.
+    #[error("roster line {line}: {why}")]
+    Fault { line: u32, why: RosterWhy },
+    /// No memory was found.
+    #[error("no memory")]
+    NoMemory,
+}
+
+/// Why a line isn't taken.
+#[derive(Clone, Copy, Debug, PartialEq, Eq)]
+pub enum Stop {
+    Fault(RosterWhy),
+    NoMemory,
+}
