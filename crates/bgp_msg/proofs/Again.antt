@@ -2,9 +2,9 @@
 use Rattle.std.proofs.Common.{◌≡◌, ℕ, ◌+◌, ◌≤◌, false, List, [], ◌∷◌, ◌++◌, length, refl, arith}
 use Rattle.std.proofs.lemmas.Bool.{or_from, le-ltb}
 use Rattle.std.proofs.Common.{ltb}
-use Rattle.rcp_model.specs.Messages.{FaultOf, is_outside, IsMessage, messages_in}
+use Rattle.rcp_model.specs.Messages.{FaultOf, is_outside, IsMessage, messages_in, notification_octets}
 use Rattle.rcp_model.proofs.ReadingLemmas.{IsMessage-message_octets, messages_in-cons}
-use Rattle.bgp_msg.specs.Written.{keepalive_octets, notification_octets}
+use Rattle.bgp_msg.specs.Written.{keepalive_octets}
 
 pub whole_again : (message more : List ℕ) → IsMessage message → messages_in (message ++ more) ≡ message ∷ messages_in more
 whole_again message more whole = (messages_in-cons message more whole).0

@@ -1,16 +1,12 @@
--- Messages that are written: KEEPALIVE (RFC 4271 section 4.4) and NOTIFICATION (section 4.5).
-use Rattle.std.specs.Prelude.{ℕ, List, [], ◌∷◌}
+-- Messages that are written: KEEPALIVE (RFC 4271 section 4.4), and how long the data of a NOTIFICATION is (section 4.5).
+use Rattle.std.specs.Prelude.{ℕ, List, []}
 use Rattle.bgp_fault.specs.declared.Data.{Data}
 use Rattle.bgp_fault.specs.declared.Data.TheVariants as extra
-use Rattle.rcp_model.specs.Messages.{FaultOf, message_octets}
+use Rattle.rcp_model.specs.Messages.{message_octets}
 
 -- no body
 abbrev pub keepalive_octets : List ℕ
 keepalive_octets = message_octets 4 []
-
--- error code, error subcode and data
-abbrev pub notification_octets : FaultOf → List ℕ
-notification_octets fault = message_octets 3 (fault.code ∷ fault.sub ∷ fault.content)
 
 -- how many octets the data of a fault has
 abbrev pub data_length : Data → ℕ

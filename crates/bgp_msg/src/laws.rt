@@ -3,11 +3,11 @@
 ghost use Rattle.std.specs.Prelude.{◌≡◌, ℕ, ◌<◌, ◌≤◌, ◌^◌, Bool, true, false, List, ◌∷◌, ◌++◌, [], length, drop, Some, None, if◌then◌else◌};
 ghost use Rattle.std.specs.List.{AllByRecursion, flat_map};
 ghost use Rattle.rcp_base.specs.IpPrefix.{IpPrefix, IsPrefix, prefix_octets};
-ghost use Rattle.rcp_model.specs.Messages.{FaultOf, fault, type_field, IsMessage, messages_in};
+ghost use Rattle.rcp_model.specs.Messages.{FaultOf, fault, type_field, IsMessage, messages_in, notification_octets};
 ghost use Rattle.rcp_model.specs.Updates.{sections_of, prefixes_in, prefixes_fault, update_octets};
 ghost use Rattle.rcp_model.specs.Opens.{OpenFields, open_fields, open_octets, open_fault, is_short_hold};
 ghost use Rattle.bgp_msg.specs.Opened.{IsOffer, fault_but_identifier, is_behind_identifier};
-ghost use Rattle.bgp_msg.specs.Written.{keepalive_octets, notification_octets};
+ghost use Rattle.bgp_msg.specs.Written.{keepalive_octets};
 
 /// A KEEPALIVE that is written is read again, whatever follows it.
 pub fn written_keepalive_is_read_again()

@@ -3,7 +3,8 @@
 ghost use Rattle.std.specs.Prelude.{◌≡◌, ◌+◌, ◌≤◌, ◌++◌, length, take};
 ghost use Rattle.bgp_fault.specs.Faults.{data_octets, IsWithin};
 ghost use Rattle.path_attrs.specs.Refusals.{fault_in};
-ghost use Rattle.bgp_msg.specs.Written.{notification_octets, data_length};
+ghost use Rattle.bgp_msg.specs.Written.{data_length};
+ghost use Rattle.rcp_model.specs.Messages.{notification_octets};
 
 use crate::header::NOTIFICATION;
 use crate::put::{put, put_header};

@@ -24,10 +24,6 @@ fn next_hop(router: u8) -> [u8; 7] {
     [0x40, 0x03, 0x04, 10, 0, 0, router]
 }
 
-fn exit_discriminator(exit: u8) -> [u8; 7] {
-    [0x80, 0x04, 0x04, 0, 0, 0, exit]
-}
-
 // An UPDATE of these pieces: its withdrawn routes, its attributes and its NLRI.
 fn update(
     alloc: Global,
@@ -58,6 +54,17 @@ fn message(alloc: Global, kind: u8, body: &[u8]) -> Result<Vec<u8>, Fail> {
     Ok(message)
 }
 
+// An announcement of a router with this path and this MULTI_EXIT_DISC.
+fn with_exit(alloc: Global, router: u8, path: &[u8], exit: u8) -> Result<Vec<u8>, Fail> {
+    let exit = [0x80, 0x04, 0x04, 0, 0, 0, exit];
+    update(
+        alloc,
+        &[],
+        &[IGP, path, &next_hop(router), &exit, PREF_100],
+        PREFIX,
+    )
+}
+
 #[test]
 fn exit_discriminators_of_one_neighbour_are_compared(rt: HostRuntime) -> Result<(), Fail> {
     let alloc = rt.alloc();
@@ -69,19 +76,9 @@ link 10.0.0.1 10.0.0.2 1\nlink 10.0.0.2 10.0.0.3 30\nlink 10.0.0.2 10.0.0.4 5\n"
     for router in 1..5 {
         add(&mut feed, b'E', u32::from(router), &[10, 0, 0, router])?;
     }
-    // The routers that announce, each with its path and its MULTI_EXIT_DISC.
-    let routes: [(u8, &[u8], u8); 3] = [(1, BY_65001, 20), (3, BY_65001, 10), (4, BY_65002, 50)];
-    for (router, path, exit) in routes {
-        let attributes = [
-            IGP,
-            path,
-            &next_hop(router),
-            &exit_discriminator(exit),
-            PREF_100,
-        ];
-        let announced = update(alloc, &[], &attributes, PREFIX)?;
-        add(&mut feed, b'B', u32::from(router), &announced)?;
-    }
+    add(&mut feed, b'B', 1, &with_exit(alloc, 1, BY_65001, 20)?)?;
+    add(&mut feed, b'B', 3, &with_exit(alloc, 3, BY_65001, 10)?)?;
+    add(&mut feed, b'B', 4, &with_exit(alloc, 4, BY_65002, 50)?)?;
     add(&mut feed, b'D', 0, &[])?;
     add(&mut feed, b'Z', 0, &[])?;
     let (status, written) = replayed(&rt, alloc, feed)?;

@@ -1,5 +1,5 @@
+use Rattle.rcp_model.specs.Messages.{notification_octets}
 use Rattle.std.proofs.Common.{refl}
-use Rattle.bgp_msg.specs.Written.{notification_octets}
 use Rattle.bgp_msg.proofs.Again.{whole_again, IsMessage-notification}
 use Rattle.bgp_msg.proofs.laws.written_notification_is_read_again.Goals as goal
 
