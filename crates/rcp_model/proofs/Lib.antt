@@ -21,3 +21,4 @@ pub mod CodecLemmas
 pub mod RecordLemmas
 pub mod FaultlessLemmas
 pub mod Computed
+pub mod SessionLemmas

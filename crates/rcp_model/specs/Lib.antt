@@ -13,8 +13,10 @@ pub mod Graphs
 pub mod Decision
 pub mod Control
 pub mod Feed
+pub mod Sessions
 pub mod Meaning
 pub mod Examples
 pub mod Plain
 pub mod Contests
 pub mod Cases
+pub mod SessionCases

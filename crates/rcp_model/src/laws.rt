@@ -7,4 +7,6 @@ pub mod instances;
 pub mod offers;
 pub mod reading;
 pub mod readings;
+pub mod session_cases;
+pub mod sessions;
 pub mod walks;
