@@ -1,14 +1,13 @@
 -- The course of a session: message by message, and however its octets are cut.
-use Rattle.std.proofs.Common.{◌≡◌, ℕ, ◌<◌, ◌≤◌, Bool, true, false, inl, inr, ⊎_elim, List, [], ◌∷◌, ◌++◌, length, map, take, drop, max, Option, Some, None, refl, sym, ap, ◌∙◌, arith, append_assoc, append-nil, take-append-drop, length-append, length-take-le, leb, le-leb, leb-true}
+use Rattle.std.proofs.Common.{◌≡◌, ℕ, ◌≤◌, Bool, true, false, inl, inr, List, [], ◌∷◌, ◌++◌, length, map, take, drop, max, Option, Some, None, refl, sym, ap, ◌∙◌, arith, append_assoc, append-nil, take-append-drop, length-append, length-take-le, leb, le-leb, leb-true}
 use Rattle.std.specs.Prelude.{if◌then◌else◌}
-use Rattle.std.specs.List.{concat, AllByRecursion}
+use Rattle.std.specs.List.{concat}
 use Rattle.std.proofs.lemmas.Option.{none-some}
-use Rattle.rcp_model.specs.Cut.{cut}
-use Rattle.rcp_model.specs.Messages.{FaultOf, header_fault, message_size, IsMessage, messages_in, rest_of}
+use Rattle.rcp_model.specs.Messages.{FaultOf, header_fault, message_size, messages_in, rest_of}
 use Rattle.rcp_model.specs.Feed.{RosterOf}
-use Rattle.rcp_model.specs.Sessions.{Phase, OpenSent, Claiming, OpenConfirm, Established, Closed, is_closed, reads, SessionState, Doing, nothing, later_of, then_also, Step, failed, handle, Handled, handle_all, Course, fault_in_front, with_fault, with_rest, course_of, Input, Octets, Answer, moment_in, answered, answer, answers}
+use Rattle.rcp_model.specs.Sessions.{Phase, OpenSent, Claiming, OpenConfirm, Established, Closed, is_closed, reads, SessionState, Doing, nothing, later_of, then_also, failed, handle, handle_all, Course, fault_in_front, with_fault, with_rest, course_of, Input, Octets, Answer, moment_in, answered, answer, answers}
 use Rattle.rcp_model.proofs.CutLemmas.{cut-stop}
-use Rattle.rcp_model.proofs.ReadingLemmas.{header_fault-append, message_size-Some, message_size-None, IsSize-message_size, IsMessage-seen, IsReading-cut, messages_in-cons, messages_in-later}
+use Rattle.rcp_model.proofs.ReadingLemmas.{header_fault-append, message_size-Some, message_size-None, IsMessage-seen, IsReading-cut, messages_in-cons, messages_in-later}
 
 concat-append : (a b : List (List ℕ)) → concat (a ++ b) ≡ concat a ++ concat b
 concat-append [] b = refl

@@ -1,11 +1,11 @@
 -- Sessions (RFC 4271 sections 6 and 8): the states of a connection with a router, and what messages and moments do in them.
-use Rattle.std.specs.Prelude.{ℕ, ◌-◌, ◌/◌, Bool, true, false, ◌==◌, List, [], ◌∷◌, ◌++◌, length, take, drop, map, slice_index, position, min, max, Option, Some, None, unwrap_or, is_some, nat_le, if◌then◌else◌}
+use Rattle.std.specs.Prelude.{ℕ, ◌-◌, ◌/◌, Bool, true, false, ◌==◌, List, [], ◌∷◌, ◌++◌, length, drop, map, slice_index, position, min, max, Option, Some, None, unwrap_or, is_some, nat_le, if◌then◌else◌}
 use Rattle.std.specs.List.{concat}
 use Rattle.std.specs.Int.{w16}
 use Rattle.rcp_base.specs.IpPrefix.{IpPrefix}
 use Rattle.rcp_base.specs.declared.names.Member.{Member}
 use Rattle.rcp_model.specs.Messages.{FaultOf, fault, header_fault, type_field, messages_in, rest_of, message_octets, notification_octets}
-use Rattle.rcp_model.specs.Opens.{OpenFields, open_fields, open_fault, open_octets}
+use Rattle.rcp_model.specs.Opens.{open_fields, open_fault, open_octets}
 use Rattle.rcp_model.specs.Routes.{RouteFields, route_of}
 use Rattle.rcp_model.specs.Updates.{Changes, update_fault, changes_of}
 use Rattle.rcp_model.specs.Feed.{RosterOf}
