@@ -5,7 +5,7 @@ use Rattle.std.specs.List.{concat}
 use Rattle.std.proofs.lemmas.Option.{none-some}
 use Rattle.rcp_model.specs.Messages.{FaultOf, header_fault, message_size, messages_in, rest_of}
 use Rattle.rcp_model.specs.Feed.{RosterOf}
-use Rattle.rcp_model.specs.Sessions.{Phase, OpenSent, Claiming, OpenConfirm, Established, Closed, is_closed, reads, SessionState, Doing, nothing, later_of, then_also, failed, handle, handle_all, Course, fault_in_front, with_fault, with_rest, course_of, Input, Octets, Answer, moment_in, answered, answer, answers}
+use Rattle.rcp_model.specs.Sessions.{Phase, OpenSent, Claiming, OpenConfirm, Established, Closed, is_closed, reads, SessionState, Doing, nothing, later_of, then_also, failed, handle, handle_all, Course, fault_in_front, with_fault, with_rest, course_of, Input, Octets, Seat, Moment, End, Answer, moment_in, answered, stepped, claim_answered, tick, shut, answer, answers}
 use Rattle.rcp_model.proofs.CutLemmas.{cut-stop}
 use Rattle.rcp_model.proofs.ReadingLemmas.{header_fault-append, message_size-Some, message_size-None, IsMessage-seen, IsReading-cut, messages_in-cons, messages_in-later}
 
@@ -212,6 +212,20 @@ pub answer-octets : (roster : RosterOf) (piece : List ℕ) (now : ℕ) (session 
     → answer roster (Octets piece now) session ≡ answered (moment_in session now) (course_of roster (moment_in session now) (session.kept ++ piece) session.phase)
 unfolding answer
 answer-octets roster piece now session open_ = rw (open_) refl
+
+pub answer-seat : (roster : RosterOf) (free : Bool) (now : ℕ) (session : SessionState) → is_closed session.phase ≡ false
+    → answer roster (Seat free now) session ≡ claim_answered roster free (moment_in session now) session.kept session.phase
+unfolding answer
+answer-seat roster free now session open_ = rw (open_) refl
+
+pub answer-moment : (roster : RosterOf) (now : ℕ) (session : SessionState) → is_closed session.phase ≡ false
+    → answer roster (Moment now) session ≡ stepped (moment_in session now) session.kept (tick (moment_in session now) session.phase)
+unfolding answer
+answer-moment roster now session open_ = rw (open_) refl
+
+pub answer-end : (roster : RosterOf) (session : SessionState) → is_closed session.phase ≡ false → answer roster End session ≡ stepped session.latest session.kept shut
+unfolding answer
+answer-end roster session open_ = rw (open_) refl
 
 pub closed-is : (phase : Phase) → is_closed phase ≡ true → phase ≡ Closed
 closed-is Closed closed = refl

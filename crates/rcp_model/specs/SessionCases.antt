@@ -1,7 +1,8 @@
 -- Sessions with a known course, from their first octet on. The octets are written out, not by the definitions.
-use Rattle.std.specs.Prelude.{ℕ, true, List, [], ◌∷◌, ◌++◌, Some, None}
+use Rattle.std.specs.Prelude.{ℕ, true, false, List, [], ◌∷◌, ◌++◌, Some, None}
 use Rattle.rcp_model.specs.Messages.{marker}
-use Rattle.rcp_model.specs.Examples.{linked}
+use Rattle.rcp_model.specs.Routes.{RouteFields}
+use Rattle.rcp_model.specs.Examples.{A, linked}
 use Rattle.rcp_model.specs.Sessions.{Doing, ending, Faulted, Up, Input, Octets, Seat, begun, begun_established, answers}
 
 -- what a session with the platform of three routers in a row does, from its beginning at moment 0
@@ -57,3 +58,30 @@ up_with opening = Octets opening 0 ∷ Seat true 0 ∷ Octets alive 0 ∷ []
 
 abbrev pub was_up : List (List ℕ) → Doing
 was_up sent = record { sent = sent; events = Up ∷ []; claim = Some 0; closed = None }
+
+-- ---- UPDATEs of an established session
+
+-- the route of `announcement_by 1`
+abbrev pub by_65001_at_A : RouteFields
+by_65001_at_A = record {
+  pref = 100;
+  hops = 1;
+  origin = 0;
+  neighbour = 65001;
+  med = 0;
+  looped = false;
+  long = false;
+  next_hop = A;
+  attrs = 64 ∷ 1 ∷ 1 ∷ 0 ∷ 64 ∷ 2 ∷ 4 ∷ 2 ∷ 1 ∷ 253 ∷ 233 ∷ 64 ∷ 3 ∷ 4 ∷ 10 ∷ 0 ∷ 0 ∷ 1 ∷ 64 ∷ 5 ∷ 4 ∷ 0 ∷ 0 ∷ 0 ∷ 100 ∷ [];
+}
+
+-- 203.0.113.0/24 is withdrawn
+abbrev pub withdrawal : List ℕ
+withdrawal = marker ++ (0 ∷ 27 ∷ 2 ∷ 0 ∷ 4 ∷ 24 ∷ 203 ∷ 0 ∷ 113 ∷ 0 ∷ 0 ∷ [])
+
+abbrev pub empty_update : List ℕ
+empty_update = marker ++ (0 ∷ 23 ∷ 2 ∷ 0 ∷ 0 ∷ 0 ∷ 0 ∷ [])
+
+-- NOTIFICATION Invalid ORIGIN Attribute, with the octets of the attribute
+abbrev pub origin_refused : List ℕ
+origin_refused = marker ++ (0 ∷ 25 ∷ 3 ∷ 3 ∷ 6 ∷ 64 ∷ 1 ∷ 1 ∷ 3 ∷ [])

@@ -292,10 +292,10 @@ answered now course = record { after = record { phase = course.phase; kept = cou
 
 -- a step that reads no octets
 abbrev pub stepped : ℕ → List ℕ → Step → Answer
-stepped now kept taken = record { after = record { phase = taken.phase; kept = kept_in taken.phase; latest = now }; does = taken.does } where
-  kept_in : Phase → List ℕ
-  kept_in Closed = []
-  kept_in phase = kept
+stepped now kept taken = record {
+  after = record { phase = taken.phase; kept = if is_closed taken.phase then [] else kept; latest = now };
+  does = taken.does;
+}
 
 -- the seat is taken (section 6.7: Cease)
 abbrev pub seat_taken : Step

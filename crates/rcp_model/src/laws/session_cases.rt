@@ -3,8 +3,9 @@
 ghost use Rattle.std.specs.Prelude.{◌≡◌, true, false, [], ◌∷◌, ◌++◌, take, drop, Some};
 ghost use Rattle.rcp_model.specs.Messages.{marker};
 ghost use Rattle.rcp_model.specs.Examples.{linked, announcement_by};
-ghost use Rattle.rcp_model.specs.Sessions.{begun, ending, Faulted, Received, SeatTaken, Ended, Octets, Seat, Moment, End, Up, nothing};
-ghost use Rattle.rcp_model.specs.SessionCases.{done, done_established, platform_open, open_with, open_30, alive, cease, header_with, faulted, faulted_with, timeout, up_with, was_up};
+ghost use Rattle.rcp_model.specs.Sessions.{begun, ending, Faulted, Received, SeatTaken, Ended, Octets, Seat, Moment, End, Announce, Withdraw, Up, nothing};
+ghost use Rattle.rcp_model.specs.SessionCases.{done, done_established, platform_open, open_with, open_30, alive, cease, header_with, faulted, faulted_with, timeout, up_with, was_up, by_65001_at_A, withdrawal, empty_update, origin_refused};
+ghost use Rattle.rcp_model.specs.Cases.{faulty_announcement};
 
 /// A connection begins with the platform's OPEN: its AS, its hold time and its BGP Identifier (section 4.2).
 pub fn connection_begins_with_an_open()
@@ -63,4 +64,16 @@ pub fn octets_wait_for_the_seat()
     ensures free { done (Octets (open_30 ++ take 5 alive) 0 ∷ Octets (drop 5 alive) 1 ∷ Seat true 2 ∷ []) ≡ was_up (alive ∷ []) }
     ensures taken { done (Octets (open_30 ++ alive) 0 ∷ Seat false 0 ∷ [])
         ≡ record { sent = cease ∷ []; events = []; claim = Some 0; closed = Some (ending SeatTaken 6 0) } }
+{}
+
+/// An UPDATE tells its routes, and one without prefixes nothing. One with a fault, here an ORIGIN of 3, ends the session
+/// (section 6.3).
+pub fn updates_tell_their_routes()
+    ensures announced { done_established (Octets (announcement_by 1) 0 ∷ [])
+        ≡ record nothing { events = Announce (record { addr = 3405803776; len = 24 }) by_65001_at_A ∷ [] } }
+    ensures withdrawn { done_established (Octets withdrawal 0 ∷ [])
+        ≡ record nothing { events = Withdraw (record { addr = 3405803776; len = 24 }) ∷ [] } }
+    ensures empty { done_established (Octets empty_update 0 ∷ []) ≡ nothing }
+    ensures faulty { done_established (Octets faulty_announcement 0 ∷ Octets (announcement_by 1) 0 ∷ [])
+        ≡ record nothing { sent = origin_refused ∷ []; closed = Some (ending Faulted 3 6) } }
 {}

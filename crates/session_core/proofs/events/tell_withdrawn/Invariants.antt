@@ -1,0 +1,18 @@
+-- What was told and then the rest is what was told in the beginning and then all.
+use Rattle.std.proofs.Common.{◌≡◌, ◌-◌, ◌≤◌, ◌++◌, length, drop, map, None}
+use Rattle.rcp_model.specs.Sessions.{Withdraw}
+use Rattle.rcp_model.specs.Updates.{prefixes_in, prefixes_fault}
+use Rattle.session_core.specs.Shown.{event_of}
+use Rattle.session_core.specs.Updates.{not_announced}
+use Rattle.session_core.proofs.events.tell_withdrawn.Given as goal
+
+abbrev pub invariant-loop-prefix : goal.invariant-loop-prefix
+invariant-loop-prefix l = record {
+  within : l.place ≤ length l.section;
+  faultless : prefixes_fault (drop l.place l.section) ≡ None;
+  told : map event_of l.events.items ++ map Withdraw (not_announced l.nlri (prefixes_in (drop l.place l.section)))
+      ≡ map event_of l.initial.events.items ++ map Withdraw (not_announced l.nlri (prefixes_in l.section));
+}
+
+abbrev pub decreases-loop-prefix : goal.decreases-loop-prefix
+decreases-loop-prefix l = length l.section - l.place

@@ -1,0 +1,65 @@
+use Rattle.std.proofs.Common.{◌≡◌, List, [], ℕ, Bor, Option, Some, None, length, take, drop, refl, sym, ap, subst, ◌∙◌, arith, length-drop}
+use Rattle.std.specs.Prelude.{MatchOption}
+use Rattle.std.proofs.Math.Seq.{drop-length}
+use Rattle.std.proofs.lemmas.List.{drop-drop}
+use Rattle.rcp_model.specs.Messages.{message_size}
+use Rattle.rcp_model.specs.Sessions.{fault_in_front, course_of, handle}
+use Rattle.rcp_model.proofs.ReadingLemmas.{message_size-Some}
+use Rattle.path_attrs.specs.Refusals.{fault_in}
+use Rattle.session_core.specs.declared.state.State.TheVariants as state
+use Rattle.session_core.specs.Shown.{phase_of}
+use Rattle.session_core.specs.Steps.{Takes, Runs}
+use Rattle.session_core.proofs.RunLemmas.{going, goes-on, runs-out, runs-into, runs-closed, runs-up}
+use Rattle.session_core.proofs.reading.read_on.Goals as goal
+use Rattle.session_core.proofs.reading.read_on.Goals.{then-is_closed, else-is_closed}
+
+-- what stands in front of octets
+abbrev Stands : List ℕ → Option (Bor (List ℕ)) → Type 0
+Stands octets found = MatchOption found
+    ((message_size octets ≡ None) × (fault_in_front octets ≡ None))
+    (λ message. (message_size octets ≡ Some (length message.now)) × (message.now ≡ take (length message.now) octets))
+
+pub loop-alloc-preserved : goal.loop-alloc-preserved
+loop-alloc-preserved c =
+    let octets = c.args.octets.now in
+    let taken = c.loop-alloc.taken in
+    let back = c.split_at.ensures.back in
+    let message = c.in-Ok-Some.message.now in
+    let given = subst (Stands c.split_at.result.1.now) c.in-Ok-Some.field-0-is c.in-Ok-Some.ensures.given in
+    let size = ap message_size (sym back) ∙ given.0 in
+    let takes = subst (λ (m : List ℕ). Takes (handle c.args.roster.now c.args.now m (phase_of c.loop-alloc.state)) c.loop-alloc.actions c.in_ok-state-in-Ok-Some.state c.handle.new.actions)
+    (given.1 ∙ ap (take (length message)) back) c.in_ok-state-in-Ok-Some.ensures in
+    record {
+      within = omega (arith, c.loop-alloc.invariant.within, (message_size-Some (drop taken octets) (length message) size).within, length-drop taken octets);
+      same =
+          ap (λ (o : List ℕ). going c.args.roster.now c.args.now c.handle.new.actions o c.in_ok-state-in-Ok-Some.state) (sym (drop-drop (length message) taken octets))
+          ∙ goes-on c.args.roster.now c.args.now (drop taken octets) (length message) c.loop-alloc.state c.in_ok-state-in-Ok-Some.state c.loop-alloc.actions c.handle.new.actions size (sym c.reads.ensures ∙ c.loop-alloc-test.true) takes
+          ∙ c.loop-alloc.invariant.same;
+    }
+
+pub returns-in-Ok-None-clause-runs : goal.returns-in-Ok-None-clause-runs
+returns-in-Ok-None-clause-runs c =
+    let back = c.split_at.ensures.back in
+    let given = subst (Stands c.split_at.result.1.now) c.in-Ok-None.field-0-is c.in-Ok-None.ensures.given in
+    runs-out c.args.roster.now c.args.now c.args.octets.now c.loop-alloc.taken c.args.state c.loop-alloc.state c.args.actions.now c.loop-alloc.actions c.loop-alloc.invariant.same
+    (ap message_size (sym back) ∙ given.0) (ap fault_in_front (sym back) ∙ given.1) (sym c.reads.ensures ∙ c.loop-alloc-test.true)
+
+pub returns-in-Err-clause-runs : goal.returns-in-Err-clause-runs
+returns-in-Err-clause-runs c =
+    let back = c.split_at.ensures.back in
+    runs-into c.args.roster.now c.args.now c.args.octets.now c.loop-alloc.taken c.args.state c.loop-alloc.state c.args.actions.now c.loop-alloc.actions c.loop-alloc.invariant.same
+    (fault_in [] c.in-Err.fault) (length c.args.octets.now) state.Closed c.close_by.new.actions
+    (ap message_size (sym back) ∙ c.in-Err.ensures.given.0) (ap fault_in_front (sym back) ∙ c.in-Err.ensures.given.1) (sym c.reads.ensures ∙ c.loop-alloc-test.true)
+    refl (drop-length c.args.octets.now) c.in_ok-close_by-in-Err.ensures
+
+pub returns-clause-runs : goal.returns-clause-runs
+returns-clause-runs c = elim c.if-is_closed.branch [
+  | then-is_closed w ↦
+      subst (λ (n : ℕ). Runs (course_of c.args.roster.now c.args.now c.args.octets.now (phase_of c.args.state)) c.args.actions.now c.args.octets.now n c.loop-alloc.state c.loop-alloc.actions) (sym w.taken-is)
+      (runs-closed c.args.roster.now c.args.now c.args.octets.now c.loop-alloc.taken c.args.state c.loop-alloc.state c.args.actions.now c.loop-alloc.actions c.loop-alloc.invariant.same
+      (length c.args.octets.now) (sym c.is_closed.ensures ∙ w.if-is_closed.true) (drop-length c.args.octets.now))
+  | else-is_closed w ↦
+      subst (λ (n : ℕ). Runs (course_of c.args.roster.now c.args.now c.args.octets.now (phase_of c.args.state)) c.args.actions.now c.args.octets.now n c.loop-alloc.state c.loop-alloc.actions) (sym w.taken-is)
+      (runs-up c.args.roster.now c.args.now c.args.octets.now c.loop-alloc.taken c.args.state c.loop-alloc.state c.args.actions.now c.loop-alloc.actions c.loop-alloc.invariant.same
+      (sym c.reads.ensures ∙ c.loop-alloc-test.false) (sym c.is_closed.ensures ∙ w.if-is_closed.false))
+]

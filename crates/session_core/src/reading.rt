@@ -1,0 +1,60 @@
+//! Octets, message by message.
+
+ghost use Rattle.std.specs.Prelude.{◌≤◌, length, IfOk};
+ghost use Rattle.rcp_model.specs.Sessions.{course_of};
+ghost use Rattle.session_core.specs.Shown.{phase_of};
+ghost use Rattle.session_core.specs.Steps.{Runs};
+
+use crate::actions::{Actions, Why};
+use crate::front::front;
+use crate::handling::handle;
+use crate::sending::close_by;
+use crate::state::State;
+use rcp_base::NoMemory;
+use roster::Roster;
+use std::alloc::Global;
+
+/// Where reading stopped.
+#[derive(Clone, Copy, Debug)]
+pub struct Read {
+    pub state: State,
+    /// How many octets in front aren't wanted any more.
+    pub taken: usize,
+}
+
+/// Reads messages while the state does and whole ones are there. A faulty header ends the session.
+pub fn read_on(
+    alloc: Global,
+    roster: &Roster,
+    state: State,
+    octets: &[u8],
+    now: u64,
+    actions: &mut Actions,
+) -> Result<Read, NoMemory>
+    ensures runs { IfOk result (λ read. Runs (course_of roster.now now octets.now (phase_of state)) actions.old octets.now read.taken read.state actions.new) }
+    ensures within { IfOk result (λ read. read.taken ≤ length octets.now) }
+{
+    let mut state = state;
+    let mut taken = 0;
+    while state.reads() {
+        let (_, rest) = octets.split_at(taken);
+        match front(rest) {
+            Ok(Some(message)) => {
+                state = handle(alloc, roster, state, message, now, actions)?;
+                taken += message.len();
+            }
+            Ok(None) => return Ok(Read { state, taken }),
+            Err(fault) => {
+                close_by(alloc, actions, Why::Fault, &fault, &[])?;
+                return Ok(Read {
+                    state: State::Closed,
+                    taken: octets.len(),
+                });
+            }
+        }
+    }
+    if state.is_closed() {
+        taken = octets.len();
+    }
+    Ok(Read { state, taken })
+}

@@ -1,0 +1,67 @@
+//! The states of a session (RFC 4271 section 8.2.2).
+
+ghost use Rattle.std.specs.Prelude.{◌≡◌};
+ghost use Rattle.rcp_model.specs.Sessions as sessions;
+ghost use Rattle.session_core.specs.Shown.{phase_of};
+
+use rcp_base::Slot;
+
+/// What the OPENs of both ends came to.
+#[derive(Clone, Copy, Debug, PartialEq, Eq)]
+pub struct Negotiated {
+    /// The hold time in seconds: 0 where the session has no timers.
+    pub hold: u16,
+}
+
+/// A claim on the seat of the router that sent an OPEN.
+#[derive(Clone, Copy, Debug, PartialEq, Eq)]
+pub struct Claim {
+    /// The moment since which the session was in OpenSent.
+    pub since: u64,
+    pub slot: Slot,
+    pub negotiated: Negotiated,
+}
+
+/// A session after its seat was taken.
+#[derive(Clone, Copy, Debug, PartialEq, Eq)]
+pub struct Peering {
+    pub slot: Slot,
+    pub negotiated: Negotiated,
+    /// The moment at which an OPEN, a KEEPALIVE or an UPDATE was last read.
+    pub read: u64,
+    /// The moment at which a KEEPALIVE was last sent.
+    pub sent: u64,
+}
+
+/// A state, its moments in seconds.
+#[derive(Clone, Copy, Debug, PartialEq, Eq)]
+pub enum State {
+    /// Since this moment.
+    OpenSent { since: u64 },
+    /// An OPEN came and claims a seat.
+    Claiming(Claim),
+    OpenConfirm(Peering),
+    Established(Peering),
+    Closed,
+}
+
+impl State {
+    /// Whether messages are read.
+    pub fn reads(&self) -> bool
+        ensures { result ≡ sessions.reads (phase_of self.now) }
+    {
+        match self {
+            State::Claiming(_) | State::Closed => false,
+            _ => true,
+        }
+    }
+
+    pub fn is_closed(&self) -> bool
+        ensures { result ≡ sessions.is_closed (phase_of self.now) }
+    {
+        match self {
+            State::Closed => true,
+            _ => false,
+        }
+    }
+}

@@ -1,0 +1,236 @@
+// Sessions from their first octet on: what comes to each, and what it sends, tells and ends with.
+use crate::{Actions, Closed, Session, SessionEvent, Why};
+use rcp_base::{NoMemory, Prefix, Slot};
+use roster::{Roster, read};
+use std::alloc::Global;
+use std::test::Fail;
+
+mod cases;
+mod cuts;
+
+const LINKED: &[u8] =
+    b"as 65000\nid 10.0.0.254\nshards 2\nhold 90\narea 0.0.0.0\nrouter 10.0.0.1 10.0.0.1\nrouter 10.0.0.2 10.0.0.2\nrouter 10.0.0.3 10.0.0.3\nlink 10.0.0.1 10.0.0.2 10\nlink 10.0.0.2 10.0.0.3 10\n";
+
+const MARKER: [u8; 16] = [0xff; 16];
+
+// The platform's OPEN behind its marker: AS 65000, hold time 90 and BGP Identifier 10.0.0.254.
+const OWN_OPEN: &[u8] = &[
+    0x00, 0x1d, 0x01, 0x04, 0xfd, 0xe8, 0x00, 0x5a, 0x0a, 0x00, 0x00, 0xfe, 0x00,
+];
+
+// A router's OPEN with the hold time 30 and a parameter of capabilities.
+const OPEN_30: &[u8] = &[
+    0x00, 0x1f, 0x01, 0x04, 0xfd, 0xe8, 0x00, 0x1e, 0x0a, 0x00, 0x00, 0x01, 0x02, 0x02, 0x00,
+];
+
+const ALIVE: &[u8] = &[0x00, 0x13, 0x04];
+
+// 203.0.113.0/24 with ORIGIN IGP, the path 65001, NEXT_HOP 10.0.0.1 and LOCAL_PREF 100.
+const ANNOUNCEMENT: &[u8] = &[
+    0x00, 0x34, 0x02, 0x00, 0x00, 0x00, 0x19, 0x40, 0x01, 0x01, 0x00, 0x40, 0x02, 0x04, 0x02, 0x01,
+    0xfd, 0xe9, 0x40, 0x03, 0x04, 0x0a, 0x00, 0x00, 0x01, 0x40, 0x05, 0x04, 0x00, 0x00, 0x00, 0x64,
+    0x18, 0xcb, 0x00, 0x71,
+];
+
+// What comes to a session: a message without its marker, the answer to its claim, or a moment, which is that of all that
+// comes until the next one.
+#[derive(Clone, Copy)]
+enum Input {
+    Message(&'static [u8]),
+    Seat(bool),
+    Moment(u64),
+}
+
+// What a session did: the messages without their markers, one after another; the events, each a letter, and behind it the
+// octets of the prefix; the slot that it claimed, and its end.
+#[derive(Drop)]
+struct Log {
+    sent: Vec<u8>,
+    events: Vec<u8>,
+    claim: Option<Slot>,
+    closed: Option<Closed>,
+}
+
+impl Log {
+    fn new(alloc: Global) -> Log {
+        Log {
+            sent: Vec::new(alloc),
+            events: Vec::new(alloc),
+            claim: None,
+            closed: None,
+        }
+    }
+
+    fn add(&mut self, actions: &Actions) -> Result<(), Fail> {
+        for message in &actions.send {
+            let rest = message.strip_prefix(MARKER.as_slice()).ok_or("a marker")?;
+            self.sent.extend_from_slice(rest)?;
+        }
+        for event in &actions.events {
+            self.add_event(event)?;
+        }
+        if let Some(slot) = actions.claim {
+            self.claim = Some(slot);
+        }
+        if let Some(closed) = actions.closed {
+            self.closed = Some(closed);
+        }
+        Ok(())
+    }
+
+    fn add_event(&mut self, event: &SessionEvent) -> Result<(), Fail> {
+        match event {
+            SessionEvent::Up => self.events.push(b'U')?,
+            SessionEvent::Announce { prefix, .. } => self.add_prefix(b'A', prefix)?,
+            SessionEvent::Withdraw { prefix } => self.add_prefix(b'W', prefix)?,
+        }
+        Ok(())
+    }
+
+    fn add_prefix(&mut self, letter: u8, prefix: &Prefix) -> Result<(), Fail> {
+        let mut octets = [0; 5];
+        let count = prefix.write_octets(&mut octets);
+        self.events.push(letter)?;
+        self.events.extend_from_slice(&octets[..count])?;
+        Ok(())
+    }
+}
+
+// The roster of three routers in a row.
+fn linked(alloc: Global) -> Result<Roster, Fail> {
+    let text = LINKED;
+    if text.len() > 65536 {
+        return Err("a short text".into());
+    }
+    Ok(read(alloc, text).map_err(|_| "a roster")?)
+}
+
+// A session with the first router of the roster that is established from its beginning.
+fn established(alloc: Global, roster: &Roster) -> Result<(Session, Actions), Fail> {
+    if roster.len() < 1 {
+        return Err("a router".into());
+    }
+    Ok(Session::established(alloc, roster, Slot(0)).map_err(|_| "memory")?)
+}
+
+// What comes does this at a moment.
+fn answer(
+    alloc: Global,
+    session: &mut Session,
+    roster: &Roster,
+    input: Input,
+    now: u64,
+) -> Result<Actions, Fail> {
+    let actions = match input {
+        Input::Message(rest) => {
+            let mut octets = Vec::from_slice(alloc, &MARKER)?;
+            octets.extend_from_slice(rest)?;
+            session.bytes(roster, &octets, now)
+        }
+        Input::Seat(free) => session.seated(roster, free, now),
+        Input::Moment(now) => session.clock(now),
+    };
+    Ok(actions.map_err(|_| "memory")?)
+}
+
+// All that comes, one after another.
+fn answer_all(
+    alloc: Global,
+    session: &mut Session,
+    roster: &Roster,
+    inputs: &[Input],
+    log: &mut Log,
+) -> Result<(), Fail> {
+    let mut now = 0;
+    for input in inputs {
+        if let Input::Moment(moment) = *input {
+            now = moment;
+        }
+        let actions = answer(alloc, session, roster, *input, now)?;
+        log.add(&actions)?;
+    }
+    Ok(())
+}
+
+#[test]
+fn a_connection_begins_with_an_open(rt: HostRuntime) -> Result<(), Fail> {
+    let alloc = rt.alloc();
+    let roster = linked(alloc)?;
+    let (_, actions) = Session::open(alloc, &roster, 7).map_err(|_| "memory")?;
+    let mut log = Log::new(alloc);
+    log.add(&actions)?;
+    assert_eq!(rt; log.sent.as_slice(), OWN_OPEN);
+    assert!(rt; log.events.is_empty());
+    assert_eq!(rt; log.closed, None);
+    Ok(())
+}
+
+#[test]
+fn an_ended_connection_closes_its_session_once(rt: HostRuntime) -> Result<(), Fail> {
+    let alloc = rt.alloc();
+    let roster = linked(alloc)?;
+    let (mut session, actions) = established(alloc, &roster)?;
+    let mut log = Log::new(alloc);
+    log.add(&actions)?;
+    assert_eq!(rt; log.events.as_slice(), b"U".as_slice());
+    let end = session.end();
+    assert_eq!(rt;
+        end.closed,
+        Some(Closed {
+            why: Why::End,
+            code: 0,
+            sub: 0
+        })
+    );
+    assert!(rt; end.send.is_empty());
+    assert!(rt; end.events.is_empty());
+    assert_eq!(rt; session.end().closed, None);
+    let later = answer(
+        alloc,
+        &mut session,
+        &roster,
+        Input::Message(ANNOUNCEMENT),
+        1,
+    )?;
+    assert!(rt; later.send.is_empty());
+    assert!(rt; later.events.is_empty());
+    Ok(())
+}
+
+#[test]
+fn ends_have_their_numbers(rt: HostRuntime) -> Result<(), Fail> {
+    for (why, number) in [
+        (Why::Fault, 1),
+        (Why::Received, 2),
+        (Why::End, 3),
+        (Why::SeatOut, 4),
+    ] {
+        assert_eq!(rt; why as u8, number);
+    }
+    Ok(())
+}
+
+#[test]
+fn an_update_tells_its_routes(rt: HostRuntime) -> Result<(), Fail> {
+    let alloc = rt.alloc();
+    let roster = linked(alloc)?;
+    let (mut session, _) = established(alloc, &roster)?;
+    let actions = answer(
+        alloc,
+        &mut session,
+        &roster,
+        Input::Message(ANNOUNCEMENT),
+        0,
+    )?;
+    let Some(SessionEvent::Announce { prefix, route }) = actions.events.first() else {
+        return Err("an announcement".into());
+    };
+    assert_eq!(rt; (prefix.addr(), prefix.len()), (0xcb00_7100, 24));
+    assert_eq!(rt;
+        (route.pref, route.hops, route.origin, route.neighbour),
+        (100, 1, 0, 65001)
+    );
+    assert_eq!(rt; route.next_hop.0, 0x0a00_0001);
+    assert_eq!(rt; route.octets(), &ANNOUNCEMENT[7..32]);
+    Ok(())
+}
