@@ -1,7 +1,7 @@
 -- The roster of a text: what the program's own roster is of the definition's.
 use Rattle.std.specs.Prelude.{ℕ, ◌==◌, List, []}
 use Rattle.std.specs.List.{slice_split}
-use Rattle.rcp_model.specs.Feed.{RosterOf}
+use Rattle.rcp_model.specs.Rosters.{RosterOf}
 use Rattle.rcp_run.specs.declared.roster.Roster.{Roster}
 use Rattle.rcp_run.specs.declared.roster_text.Settings.{Settings}
 

@@ -1,6 +1,6 @@
 // The roster: the routers that the platform speaks for, and the settings of its sessions.
 ghost use Rattle.std.specs.Prelude.{◌≡◌, ◌<◌, ◌≤◌, length, vec_len, IfSome};
-ghost use Rattle.rcp_model.specs.Meaning.{slot_from};
+ghost use Rattle.rcp_model.specs.Rosters.{slot_from};
 
 pub use crate::roster_text::read_roster;
 use rcp_base::{Addr, Member, RouterId, Slot};

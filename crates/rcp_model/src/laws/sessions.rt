@@ -2,7 +2,7 @@
 
 ghost use Rattle.std.specs.Prelude.{◌≡◌, ℕ, true, List, [], ◌∷◌, map};
 ghost use Rattle.std.specs.List.{concat};
-ghost use Rattle.rcp_model.specs.Feed.{RosterOf};
+ghost use Rattle.rcp_model.specs.Rosters.{RosterOf};
 ghost use Rattle.rcp_model.specs.Sessions.{SessionState, Input, Octets, is_closed, nothing, answer, answers};
 
 /// A closed session stays closed, and does nothing, whatever comes.

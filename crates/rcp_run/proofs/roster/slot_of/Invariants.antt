@@ -1,6 +1,6 @@
 -- The router is among the members that are left where it is among all.
 use Rattle.std.proofs.Common.{◌≡◌, drop}
-use Rattle.rcp_model.specs.Meaning.{slot_from}
+use Rattle.rcp_model.specs.Rosters.{slot_from}
 use Rattle.rcp_run.proofs.roster.slot_of.Given as goal
 
 abbrev pub invariant-loop-place : goal.invariant-loop-place

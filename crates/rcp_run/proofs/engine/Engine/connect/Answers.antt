@@ -4,7 +4,7 @@ use Rattle.std.specs.Int.{w32, from_be_bytes}
 use Rattle.std.proofs.lemmas.List.{map-append}
 use Rattle.rcp_model.specs.Maps.{include_all}
 use Rattle.rcp_model.specs.Control.{announced_prefixes}
-use Rattle.rcp_model.specs.Meaning.{slot_from}
+use Rattle.rcp_model.specs.Rosters.{slot_from}
 use Rattle.rcp_run.specs.declared.announcements.Announcement.{Announcement}
 use Rattle.rcp_run.specs.declared.table.Cell.{Cell}
 use Rattle.rcp_run.specs.declared.engine.Begun.{Begun}
