@@ -18,7 +18,6 @@ pub mod GraphLemmas
 pub mod MemberLemmas
 pub mod WalkLemmas
 pub mod CodecLemmas
-pub mod RecordLemmas
 pub mod FaultlessLemmas
 pub mod Computed
 pub mod SessionLemmas

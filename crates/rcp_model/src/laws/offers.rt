@@ -2,7 +2,8 @@
 
 ghost use Rattle.std.specs.List.{AllByRecursion, All};
 ghost use Rattle.std.specs.Prelude.{◌<◌, List};
-ghost use Rattle.rcp_model.specs.Feed.{RosterOf, FeedRecord};
+ghost use Rattle.rcp_base.specs.Feed.{FeedRecord};
+ghost use Rattle.rcp_model.specs.Rosters.{RosterOf};
 ghost use Rattle.rcp_model.specs.Meaning.{Headline};
 
 /// After every list of records, for each connected router and each prefix that isn't touched, the octets sent to the
