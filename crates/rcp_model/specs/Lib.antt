@@ -14,6 +14,7 @@ pub mod Decision
 pub mod Control
 pub mod Rosters
 pub mod Sessions
+pub mod Telling
 pub mod Meaning
 pub mod WholeFeed
 pub mod Examples

@@ -1,6 +1,6 @@
 -- What a feed means: a fold over its records, which gives the sessions of its connections, the events of the route control server
 -- and the records that are put out.
-use Rattle.std.specs.Prelude.{◌≡◌, ℕ, ◌+◌, ◌-◌, ◌^◌, Bool, true, false, not, ◌&&◌, List, [], ◌∷◌, ◌++◌, length, map, max, min, Option, Some, None, nat_lt, if◌then◌else◌, ◌==◌}
+use Rattle.std.specs.Prelude.{◌≡◌, ℕ, ◌+◌, ◌-◌, ◌^◌, ◌<◌, Bool, true, false, not, ◌&&◌, ◌==◌, List, [], ◌∷◌, ◌++◌, length, map, min, Option, Some, None, if◌then◌else◌}
 use Rattle.std.specs.List.{list_any, flat_map}
 use Rattle.std.specs.Int.{w32, w64, to_be_bytes, from_be_bytes}
 use Rattle.rcp_base.specs.IpPrefix.{IpPrefix}
@@ -22,12 +22,10 @@ use Rattle.rcp_model.specs.Control.{Domain, Server, ServerEvent, Up, Down, Chang
 abbrev pub Connections : Type 0
 Connections = List (ℕ × SessionState)
 
--- The roster, the connections, the greatest number of one so far, the latest moment in seconds, the server, and how many
--- UPDATEs were put out.
+-- The roster, the connections, the latest moment in seconds, the server, and how many UPDATEs were put out.
 pub record Platform : Type 0 where
   pub roster : RosterOf
   pub connections : Connections
-  pub last : ℕ
   pub moment : ℕ
   pub server : Server
   pub updates : ℕ
@@ -40,7 +38,6 @@ abbrev pub fresh : RosterOf → Platform
 fresh roster = record {
   roster = roster;
   connections = [];
-  last = 0;
   moment = 0;
   server = record { tables = []; announcements = []; touched = []; edges = rising_edges roster.links };
   updates = 0;
@@ -119,14 +116,10 @@ ready_turn platform number (Some slot) =
 abbrev pub slot_named : RosterOf → List ℕ → Option ℕ
 slot_named roster body = slot_from 0 roster.members (from_be_bytes w32 body)
 
--- a connection's number is above each earlier one
-abbrev pub is_new : Platform → ℕ → Bool
-is_new platform number = nat_lt platform.last number
-
 -- the turns of a record, of the platform as it is at its moment
 abbrev pub turns_of : Platform → ℕ → List ℕ → Kind → List Turn
-turns_of platform number body kind.Ready = if is_new platform number then ready_turn platform number (slot_named platform.roster body) else []
-turns_of platform number body kind.Raw = if is_new platform number then turn number None (begun platform.roster platform.moment) ∷ [] else []
+turns_of platform number body kind.Ready = ready_turn platform number (slot_named platform.roster body)
+turns_of platform number body kind.Raw = turn number None (begun platform.roster platform.moment) ∷ []
 turns_of platform number body kind.Octets = map (octets_turn platform body) (connection_at platform.connections number)
 turns_of platform number body kind.Closed = map (simple_turn platform.roster End) (connection_at platform.connections number)
 turns_of platform number body kind.Time = map (simple_turn platform.roster (Moment (moment_of body))) platform.connections
@@ -255,12 +248,9 @@ drain platform = record platform { server = drained_server platform; updates = m
 abbrev pub drain_output : Platform → List OutRecord
 drain_output platform = drain_messages platform ++ summary (drained_server platform) (drain platform).updates ∷ []
 
--- the platform at the moment of a record, and with the number of its connection
+-- the platform at the moment of a record
 abbrev pub noted : FeedRecord → Platform → Platform
-noted item platform = record platform {
-  last = if begins item.kind then max platform.last item.source else platform.last;
-  moment = if is_time item.kind then moment_of item.body else platform.moment;
-}
+noted item platform = record platform { moment = if is_time item.kind then moment_of item.body else platform.moment }
 
 abbrev pub record_turns : Platform → FeedRecord → List Turn
 record_turns platform item = turns_of platform item.source item.body item.kind
@@ -291,6 +281,12 @@ all_output platform (item ∷ items) = output platform item ++ all_output (step 
 abbrev pub sent_to : ℕ → List OutRecord → List ℕ
 sent_to number [] = []
 sent_to number (out ∷ outs) = if out.kind == MESSAGE && out.connection == number then out.body ++ sent_to number outs else sent_to number outs
+
+-- each connection's number is above those before, of which the greatest is this one
+abbrev pub NumbersRise : ℕ → List FeedRecord → Type 0
+NumbersRise last [] = Unit {0}
+NumbersRise last (item ∷ items) =
+    (begins item.kind ≡ true → last < item.source) × NumbersRise (if begins item.kind then item.source else last) items
 
 -- THE HEADLINE, for one run from its beginning: where the router of a slot is connected, and a prefix isn't pending, the octets
 -- sent to it, replayed, give for the prefix exactly what the slot is offered.

@@ -159,7 +159,7 @@ opening_fault roster body = open_fault (is_known roster) roster.as_number body
 abbrev pub negotiated : RosterOf → List ℕ → Negotiated
 negotiated roster body = record { hold = min roster.hold (open_fields body).hold }
 
--- An OPEN claims the seat of its router.
+-- An OPEN claims the seat of its router, which the roster knows where the OPEN has no fault.
 abbrev pub claimed : ℕ → Negotiated → Option ℕ → Step
 claimed since terms slot = step (Claiming since (unwrap_or slot 0) terms) (record nothing { claim = slot })
 
