@@ -15,7 +15,7 @@ concat-append (x ∷ a) b = ap (λ (xs : List ℕ). x ++ xs) (concat-append a b)
 
 -- ---- one thing after another
 
-later_of-none : {A : Type 0} (a : Option A) → later_of None a ≡ a
+pub later_of-none : {A : Type 0} (a : Option A) → later_of None a ≡ a
 later_of-none None = refl
 later_of-none (Some x) = refl
 

@@ -6,7 +6,7 @@ use Rattle.std.specs.Int.{w32, w64, to_be_bytes, from_be_bytes}
 use Rattle.rcp_base.specs.IpPrefix.{IpPrefix}
 use Rattle.rcp_base.specs.declared.kinds.Kind.{Kind}
 use Rattle.rcp_base.specs.declared.kinds.Kind.TheVariants as kind
-use Rattle.rcp_base.specs.Feed.{FeedRecord, OutRecord, letter_of, begins, is_time, moment_of}
+use Rattle.rcp_base.specs.Feed.{FeedRecord, OutRecord, begins, is_time, moment_of}
 use Rattle.rcp_model.specs.Rosters.{RosterOf, slot_from}
 use Rattle.rcp_model.specs.Maps.{get_at, set_at, include_all, same_prefix}
 use Rattle.rcp_model.specs.LinkState.{same_number}

@@ -5,11 +5,10 @@ use Rattle.rcp_base.specs.declared.kinds.Kind.{Kind}
 use Rattle.rcp_base.specs.declared.kinds.Kind.TheVariants as kind
 use Rattle.rcp_base.specs.declared.kinds.FeedWhy.{FeedWhy}
 use Rattle.rcp_base.specs.declared.kinds.FeedWhy.TheVariants as why
-use Rattle.rcp_base.specs.declared.kinds.RosterWhy.{RosterWhy}
-use Rattle.rcp_base.specs.Feed.{FeedRecord, FeedState, Feed, before_feeds, feed_of, out_octets}
+use Rattle.rcp_base.specs.Feed.{FeedRecord, Feed, before_feeds, feed_of, out_octets}
 use Rattle.rcp_base.specs.Roster.{FaultyLine}
 use Rattle.rcp_model.specs.Rosters.{RosterOf, roster_in}
-use Rattle.rcp_model.specs.Meaning.{Platform, fresh, slot_named, step, output, all_output, Headline}
+use Rattle.rcp_model.specs.Meaning.{fresh, slot_named, all_output, Headline}
 
 -- ---- the faults that a record of a feed has besides
 
