@@ -22,3 +22,4 @@ pub mod Contests
 pub mod Cases
 pub mod SessionCases
 pub mod SessionFeeds
+pub mod FeedCases
