@@ -148,9 +148,8 @@ fn update_before_an_open_is_refused(rt: HostRuntime) -> Result<(), Fail> {
     Ok(())
 }
 
-// A feed in which A's session comes up at moment 0, by a connection of this number.
-fn opened(alloc: Global, feed: &mut Vec<u8>, number: u32) -> Result<(), Fail> {
-    let _ = alloc;
+// A's session comes up on a connection of this number.
+fn open(feed: &mut Vec<u8>, number: u32) -> Result<(), Fail> {
     add(feed, b'U', number, &[])?;
     add(feed, b'B', number, &OPEN_OF_A)?;
     add(feed, b'B', number, &KEEPALIVE)
@@ -160,7 +159,7 @@ fn opened(alloc: Global, feed: &mut Vec<u8>, number: u32) -> Result<(), Fail> {
 fn silent_session_expires(rt: HostRuntime) -> Result<(), Fail> {
     let alloc = rt.alloc();
     let mut feed = begun(alloc)?;
-    opened(alloc, &mut feed, 1)?;
+    open(&mut feed, 1)?;
     for moment in [9, 10, 29] {
         add_moment(&mut feed, moment)?;
         add(&mut feed, b'D', 0, &[])?;
@@ -186,9 +185,9 @@ fn silent_session_expires(rt: HostRuntime) -> Result<(), Fail> {
 fn second_connection_of_a_router_is_closed(rt: HostRuntime) -> Result<(), Fail> {
     let alloc = rt.alloc();
     let mut feed = begun(alloc)?;
-    opened(alloc, &mut feed, 1)?;
+    open(&mut feed, 1)?;
     add(&mut feed, b'E', 2, &[10, 0, 0, 1])?;
-    opened(alloc, &mut feed, 3)?;
+    open(&mut feed, 3)?;
     add(&mut feed, b'B', 1, &ANNOUNCEMENT)?;
     add(&mut feed, b'E', 4, &[10, 0, 0, 2])?;
     add(&mut feed, b'D', 0, &[])?;
@@ -210,7 +209,7 @@ fn router_that_notifies_is_not_answered_and_may_connect_anew(rt: HostRuntime) ->
     let alloc = rt.alloc();
     let mut feed = decided(alloc)?;
     add(&mut feed, b'B', 1, &message(alloc, 3, &[6, 4])?)?;
-    opened(alloc, &mut feed, 4)?;
+    open(&mut feed, 4)?;
     add(&mut feed, b'B', 4, &ANNOUNCEMENT)?;
     add(&mut feed, b'D', 0, &[])?;
     let written = output(&rt, alloc, feed)?;
