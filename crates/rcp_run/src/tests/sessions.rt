@@ -38,8 +38,11 @@ fn add_end(
     reason: u8,
     notification: &[u8],
 ) -> Result<(), Fail> {
+    let [code, sub, ..] = notification else {
+        return Err("no code and subcode")?;
+    };
     add(out, b'B', connection, &message(alloc, 3, notification)?)?;
-    add(out, b'X', connection, &[reason, notification[0], notification[1]])
+    add(out, b'X', connection, &[reason, *code, *sub])
 }
 
 // What is written for a feed that goes on to its end.
@@ -92,8 +95,10 @@ fn faulty_header_is_told_with_its_length(rt: HostRuntime) -> Result<(), Fail> {
     let alloc = rt.alloc();
     for (length, kind) in [(18_u16, 4), (4097, 2), (20, 4)] {
         let [high, low] = length.to_be_bytes();
-        let mut header = vec![in alloc; 0xff; 16]?;
-        header.extend_from_slice(&[high, low, kind])?;
+        let mut header = KEEPALIVE;
+        header[16] = high;
+        header[17] = low;
+        header[18] = kind;
         let mut feed = begun(alloc)?;
         add(&mut feed, b'U', 1, &[])?;
         add(&mut feed, b'B', 1, &header[..18])?;
