@@ -11,7 +11,7 @@ use Rattle.rcp_model.specs.Meaning.{NumbersRise}
 use Rattle.rcp_model.specs.Telling.{AreOctets}
 use Rattle.rcp_model.specs.WholeFeed.{unread_fault, read_of, with_roster, meaning_of, feed_meaning, HeadlineWritten}
 use Rattle.rcp_run.proofs.FeedLemmas.{StandsInFront, stands, cases_front, within-last, within-more, within-fault, new_number}
-use Rattle.rcp_run.proofs.Law.{headline}
+use Rattle.rcp_model.proofs.CodecLemmas.{headline}
 
 -- ---- what the headline asks of records
 

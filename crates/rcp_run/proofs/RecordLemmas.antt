@@ -1,227 +1,129 @@
--- One record more: what is answered from the platform after it is the answer from before it.
-use Rattle.std.proofs.Common.{◌≡◌, ℕ, ◌+◌, ◌<◌, true, false, List, [], ◌∷◌, ◌++◌, length, take, drop, Option, Some, None, refl, sym, ap, subst, ◌∙◌, append_assoc, append-nil}
+-- What the record of each kind means, and what is known of it where it is lawful.
+use Rattle.std.proofs.Common.{◌≡◌, ℕ, Bool, true, false, cond, List, [], length, Option, Some, None, refl, sym, ap, ◌∙◌, ◌⊎◌, inl, inr, Result, Ok, Err, eqb}
+use Rattle.std.specs.Prelude.{is_some, OnOk, IfOk}
 use Rattle.std.specs.List.{flat_map}
-use Rattle.std.proofs.lemmas.Grind.{flat_map-append}
-use Rattle.std.proofs.lemmas.List.{take-append-drop}
-use Rattle.outside.specs.Told.{in_front, behind}
+use Rattle.std.proofs.lemmas.Bool.{eqb-true}
 use Rattle.rcp_base.specs.declared.kinds.Kind.{Kind}
 use Rattle.rcp_base.specs.declared.kinds.Kind.TheVariants as kind
 use Rattle.rcp_base.specs.declared.kinds.FeedWhy.{FeedWhy}
-use Rattle.rcp_base.specs.Feed.{FeedState, FeedRecord, Feed, IsRecord, is_finish, frame_size, record_octets, out_octets, fault_of, after, feed_of}
+use Rattle.rcp_base.specs.declared.kinds.FeedWhy.TheVariants as why
+use Rattle.rcp_base.specs.Feed.{FeedRecord, moment_of, has_length}
 use Rattle.rcp_model.specs.Rosters.{RosterOf}
-use Rattle.rcp_model.specs.Meaning.{Platform, step, output, all_output}
-use Rattle.rcp_model.specs.WholeFeed.{FaultyRecord, unread_fault, end_of, read_of}
-use Rattle.feed_format.specs.Reading.{Refuses, TakesLess}
-use Rattle.feed_format.specs.Writing.{WritesLess}
-use Rattle.feed_format.specs.declared.reader.FeedRefusal.{FeedRefusal}
-use Rattle.feed_format.specs.declared.reader.FeedRefusal.TheVariants as refusal
-use Rattle.feed_format.specs.declared.status.Status.{Status}
-use Rattle.feed_format.specs.declared.status.Status.TheVariants.{Done, Read, Write, NoMemory}
-use Rattle.feed_format.specs.declared.status.Status.TheVariants as status
-use Rattle.feed_format.proofs.AgainLemmas.{lawful_parts, lawful_length}
-use Rattle.rcp_run.specs.Records.{IsNext}
-use Rattle.rcp_run.specs.Answers.{status_of, EndsSo, StopsFrom, AnswersFrom, GoesWith, items_from, outputs_from, output_from}
-use Rattle.rcp_run.proofs.FeedLemmas.{no_front, feed-fault, feed-short, feed-empty, again-last, again-more, again-first, told_front, new_number}
-use Rattle.rcp_run.proofs.NumberLemmas.{step-roster, step-numbers, all_below}
-use Rattle.rcp_run.proofs.WrittenLemmas.{wrote_nothing, wrote_none, some_missing, wrote_after}
+use Rattle.rcp_model.specs.Meaning.{Platform, ready_turn, slot_named, turn_output, after_turns, drain, drain_output, step, output}
+use Rattle.rcp_model.specs.WholeFeed.{unread_fault}
+use Rattle.rcp_run.specs.Turns.{raw_turns, octets_turns, end_turns, time_turns}
 
--- ---- what is put out
+-- what holds of a value that came holds also in other words
+pub on_ok : {X E A B : Type 0} (r : Result X E) → (A → B) → OnOk r A → OnOk r B
+on_ok (Ok x) f h = f h
+on_ok (Err e) f h = tt
 
--- the octets of what is put out for a record
-abbrev pub put_out : Platform → FeedRecord → List ℕ
-put_out platform item = flat_map out_octets (output platform item)
+pub on_any : {X E A : Type 0} (r : Result X E) → A → OnOk r A
+on_any (Ok x) h = h
+on_any (Err e) h = tt
 
-pub outputs-nil : (platform : Platform) → outputs_from platform [] ≡ []
-unfolding all_output
-outputs-nil platform = refl
+pub if_ok : {X E : Type 0} (P Q : X → Type 0) (r : Result X E) → ((x : X) → P x → Q x) → IfOk r P → IfOk r Q
+if_ok P Q (Ok x) f h = f x h
+if_ok P Q (Err e) f h = tt
 
-pub outputs-cons : (platform : Platform) (item : FeedRecord) (items : List FeedRecord)
-    → outputs_from platform (item ∷ items) ≡ put_out platform item ++ outputs_from (step platform item) items
-unfolding all_output
-outputs-cons platform item items = flat_map-append out_octets (output platform item) (all_output (step platform item) items)
+-- ---- records that aren't read
 
-outputs-none : (platform : Platform) (items : List FeedRecord) → items ≡ [] → outputs_from platform items ≡ []
-outputs-none platform items none = ap (outputs_from platform) none ∙ outputs-nil platform
+module _ (roster : RosterOf) (item : FeedRecord) where
+  pub unread-ready : item.kind ≡ kind.Ready → unread_fault roster item ≡ cond (is_some (slot_named roster item.body)) None (Some why.UnknownRouter)
+  unfolding unread_fault
+  unread-ready is = rw is refl
 
-output-finish : (platform : Platform) (k : Kind) (source : ℕ) (body : List ℕ) → is_finish k ≡ true → output platform (record { kind = k; source = source; body = body }) ≡ []
-unfolding output
-output-finish platform kind.Finish source body e = refl
-output-finish platform kind.Roster source body e = absurd cc
-output-finish platform kind.Ready source body e = absurd cc
-output-finish platform kind.Raw source body e = absurd cc
-output-finish platform kind.Octets source body e = absurd cc
-output-finish platform kind.Closed source body e = absurd cc
-output-finish platform kind.Links source body e = absurd cc
-output-finish platform kind.Time source body e = absurd cc
-output-finish platform kind.Slice source body e = absurd cc
-output-finish platform kind.Drain source body e = absurd cc
+  pub unread-links : item.kind ≡ kind.Links → unread_fault roster item ≡ Some why.BadBody
+  unfolding unread_fault
+  unread-links is = rw is refl
 
--- ---- how a feed ends
+  pub unread-slice : item.kind ≡ kind.Slice → unread_fault roster item ≡ Some why.BadBody
+  unfolding unread_fault
+  unread-slice is = rw is refl
 
-module _ (roster : RosterOf) (number : ℕ) (item : FeedRecord) (items : List FeedRecord) (fault : Option FeedWhy) where
-  end-unread : (why : FeedWhy) → unread_fault roster item ≡ Some why → end_of roster number (item ∷ items) fault ≡ FaultyRecord number why
-  end-unread why e = rw (end_of, e) refl
+  pub read-other : (k : Kind) → item.kind ≡ k → (k ≡ kind.Ready → ⊥) → (k ≡ kind.Links → ⊥) → (k ≡ kind.Slice → ⊥) → unread_fault roster item ≡ None
+  unfolding unread_fault
+  read-other kind.Roster is ready links slice = rw is refl
+  read-other kind.Ready is ready links slice = absurd (ready refl)
+  read-other kind.Raw is ready links slice = rw is refl
+  read-other kind.Octets is ready links slice = rw is refl
+  read-other kind.Closed is ready links slice = rw is refl
+  read-other kind.Links is ready links slice = absurd (links refl)
+  read-other kind.Time is ready links slice = rw is refl
+  read-other kind.Slice is ready links slice = absurd (slice refl)
+  read-other kind.Drain is ready links slice = rw is refl
+  read-other kind.Finish is ready links slice = rw is refl
 
-  end-read : unread_fault roster item ≡ None → end_of roster number (item ∷ items) fault ≡ end_of roster (number + 1) items fault
-  end-read e = rw (end_of, e) refl
+-- ---- lengths
 
--- ---- no record was given
+pub length-ready : (item : FeedRecord) → item.kind ≡ kind.Ready → has_length item.kind (length item.body) ≡ true → length item.body ≡ 4
+length-ready item is len = let four : eqb 4 (length item.body) ≡ true = rw is at len in sym (eqb-true 4 (length item.body) four)
 
-pub refuses-ends : (platform : Platform) (state : FeedState) (refused : FeedRefusal) (octets : List ℕ) (now taken : Option (List ℕ)) → Refuses state octets refused
-    → (refused ≡ refusal.Read → TakesLess (Some octets) now) → AnswersFrom platform state (status_of refused) octets now taken taken
-refuses-ends platform state (refusal.Feed number why) octets now taken h less =
-    let feed_is = feed-fault state octets why (no_front state octets why h.1) in
-    record {
-      ended = rw feed_is (ap (λ (n : ℕ). FaultyRecord n why) (sym h.0));
-      through = λ is. absurd cc;
-      written = wrote_none taken _ (outputs-none platform (items_from platform state octets) (ap (λ (f : Feed). read_of platform.roster f.items) feed_is));
-    }
-refuses-ends platform state refusal.Read octets now taken h less =
-    let part = less refl in
-    let front = told_front part.taken octets now part.given in
-    let within : length part.taken < frame_size part.taken = part.within in
-    record {
-      ended = tt;
-      through = λ is. absurd cc;
-      written = record {
-        taken = part.taken;
-        rest = front.0;
-        parts = front.2;
-        left = front.1;
-        wrote = wrote_none taken _ (outputs-none platform (items_from platform state part.taken) (ap (read_of platform.roster) (feed-short state part.taken within)));
-      };
-    }
-refuses-ends platform state refusal.NoMemory octets now taken h less =
-    record { ended = tt; through = λ is. absurd cc; written = wrote_nothing taken _ }
+pub length-time : (item : FeedRecord) → item.kind ≡ kind.Time → has_length item.kind (length item.body) ≡ true → length item.body ≡ 8
+length-time item is len = let eight : eqb 8 (length item.body) ≡ true = rw is at len in sym (eqb-true 8 (length item.body) eight)
 
--- ---- a record was given
+-- ---- the step and the output of each kind
 
-module _ (platform : Platform) (state : FeedState) (octets : List ℕ) (item : FeedRecord) (left now : Option (List ℕ))
-    (told : left ≡ Some octets) (given : left ≡ in_front (record_octets item) now) (form : IsRecord item) (lawful : fault_of state item ≡ None) where
-  front : (rest : List ℕ) × (now ≡ Some rest) × (octets ≡ record_octets item ++ rest)
-  front = told_front (record_octets item) octets now (sym told ∙ given)
+module _ (p : Platform) (item : FeedRecord) where
+  pub step-ready : item.kind ≡ kind.Ready → step p item ≡ after_turns (ready_turn p item.source (slot_named p.roster item.body)) p
+  unfolding step
+  step-ready is = rw is refl
 
-  pub unread-ends : (number : ℕ) (why : FeedWhy) (taken : Option (List ℕ)) → number ≡ state.number + 1 → unread_fault platform.roster item ≡ Some why
-      → AnswersFrom platform state (status.Feed number why) octets now taken taken
-  unread-ends number why taken count unread =
-      let first = again-first state item form lawful front.0 in
-      let items_are : (feed_of state octets).items ≡ item ∷ first.0 = ap (λ (o : List ℕ). (feed_of state o).items) front.2 ∙ first.1 in
-      record {
-        ended = rw items_are (end-unread platform.roster (state.number + 1) item first.0 (feed_of state octets).fault why unread ∙ ap (λ (n : ℕ). FaultyRecord n why) (sym count));
-        through = λ is. absurd cc;
-        written = wrote_none taken _ (outputs-none platform (items_from platform state octets) (ap (read_of platform.roster) items_are ∙ none_read first.0));
-      } where
-        none_read : (items : List FeedRecord) → read_of platform.roster (item ∷ items) ≡ []
-        none_read items = rw unread refl
+  pub step-raw : item.kind ≡ kind.Raw → step p item ≡ after_turns (raw_turns p item.source) p
+  unfolding step
+  step-raw is = rw is refl
 
-  module _ (read : unread_fault platform.roster item ≡ None) where
-    read-cons : (items : List FeedRecord) → read_of platform.roster (item ∷ items) ≡ item ∷ read_of platform.roster items
-    read-cons items = rw read refl
+  pub step-octets : item.kind ≡ kind.Octets → step p item ≡ after_turns (octets_turns p item.source item.body) p
+  unfolding step
+  step-octets is = rw is refl
 
-    pub finish-ends : (taken : Option (List ℕ)) → is_finish item.kind ≡ true → AnswersFrom platform state Done octets now taken taken
-    finish-ends taken last =
-        let feed_is = ap (feed_of state) front.2 ∙ again-last state item form lawful front.0 last in
-        let items_are = ap (λ (f : Feed). read_of platform.roster f.items) feed_is ∙ read-cons [] in
-        record {
-          ended = rw feed_is (end-read platform.roster (state.number + 1) item [] None read);
-          through = λ is. front.1 ∙ ap (λ (f : Feed). Some f.left) (sym feed_is);
-          written = wrote_none taken _ (ap (outputs_from platform) items_are ∙ outputs-cons platform item []
-              ∙ ap (λ (o : _). flat_map out_octets o ++ outputs_from (step platform item) []) (output-finish platform item.kind item.source item.body last) ∙ outputs-nil (step platform item));
-        }
+  pub step-closed : item.kind ≡ kind.Closed → step p item ≡ after_turns (end_turns p item.source) p
+  unfolding step
+  step-closed is = rw is refl
 
-    module _ (further : is_finish item.kind ≡ false) where
-      items-more : (more : List ℕ) → items_from platform state (record_octets item ++ more) ≡ item ∷ items_from (step platform item) (after state item) more
-      items-more more =
-          ap (λ (f : Feed). read_of platform.roster f.items) (again-more state item form lawful more further)
-          ∙ read-cons (feed_of (after state item) more).items
-          ∙ ap (λ (r : _). item ∷ read_of r (feed_of (after state item) more).items) (sym (step-roster platform item))
+  pub step-time : item.kind ≡ kind.Time → step p item ≡ after_turns (time_turns p (moment_of item.body)) (record p { moment = moment_of item.body })
+  unfolding step
+  step-time is = rw is refl
 
-      output-more : (more : List ℕ) → output_from platform state (record_octets item ++ more) ≡ put_out platform item ++ output_from (step platform item) (after state item) more
-      output-more more = ap (outputs_from platform) (items-more more) ∙ outputs-cons platform item (items_from (step platform item) (after state item) more)
+  pub step-drain : item.kind ≡ kind.Drain → step p item ≡ drain p
+  unfolding step
+  step-drain is = rw is refl
 
-      stops-more : (more written : List ℕ) → StopsFrom (step platform item) (after state item) more written → StopsFrom platform state (record_octets item ++ more) (put_out platform item ++ written)
-      stops-more more written h =
-          let first = put_out platform item in
-          record {
-            before = item ∷ h.before;
-            last = h.last;
-            parts = items-more more ∙ ap (λ (l : List FeedRecord). item ∷ l) h.parts;
-            part = h.part;
-            more = h.more;
-            wrote = ap (λ (l : List ℕ). first ++ l) h.wrote ∙ sym (append_assoc first (outputs_from (step platform item) h.before) h.part)
-                ∙ ap (λ (l : List ℕ). l ++ h.part) (sym (outputs-cons platform item h.before));
-            missing = output-more more ∙ ap (λ (l : List ℕ). first ++ l) h.missing ∙ sym (append_assoc first written h.more);
-            less = h.less;
-          }
+  pub output-ready : item.kind ≡ kind.Ready → output p item ≡ flat_map turn_output (ready_turn p item.source (slot_named p.roster item.body))
+  unfolding output
+  output-ready is = rw is refl
 
-      pub write-ends : (before final : Option (List ℕ)) → WritesLess (put_out platform item) before final → AnswersFrom platform state Write octets now before final
-      write-ends before final h =
-          record {
-            ended = tt;
-            through = λ is. absurd cc;
-            written = record {
-              taken = record_octets item;
-              rest = front.0;
-              parts = front.2;
-              left = front.1;
-              written = take h.count (put_out platform item);
-              wrote = h.taken;
-              part = record {
-                before = [];
-                last = item;
-                parts = only_item;
-                part = take h.count (put_out platform item);
-                more = drop h.count (put_out platform item);
-                wrote = ap (λ (l : List ℕ). l ++ take h.count (put_out platform item)) (sym (outputs-nil platform));
-                missing = ap (outputs_from platform) only_item ∙ outputs-cons platform item []
-                    ∙ ap (λ (l : List ℕ). put_out platform item ++ l) (outputs-nil (step platform item))
-                    ∙ append-nil (put_out platform item) ∙ sym (take-append-drop h.count (put_out platform item));
-                less = some_missing h.count (put_out platform item) h.fewer;
-              };
-            };
-          }
-        where
-          only_item : items_from platform state (record_octets item) ≡ item ∷ []
-          only_item =
-              ap (items_from platform state) (sym (append-nil (record_octets item))) ∙ items-more []
-              ∙ ap (λ (l : List FeedRecord). item ∷ read_of (step platform item).roster l) (feed-empty (after state item))
+  pub output-raw : item.kind ≡ kind.Raw → output p item ≡ flat_map turn_output (raw_turns p item.source)
+  unfolding output
+  output-raw is = rw is refl
 
-      pub goes_on : (before between : Option (List ℕ)) → between ≡ behind before (put_out platform item)
-          → (rest : List ℕ) × (now ≡ Some rest) × ((answer : Status) (later final : Option (List ℕ)) → AnswersFrom (step platform item) (after state item) answer rest later between final → AnswersFrom platform state answer octets later before final)
-      goes_on before between wrote = (
-        front.0,
-        front.1,
-        λ answer later final h.
-            let feed_is = ap (feed_of state) front.2 ∙ again-more state item form lawful front.0 further in
-            record {
-              ended = subst (EndsSo answer)
-                  (ap (λ (r : RosterOf). end_of r (state.number + 1 + 1) (feed_of (after state item) front.0).items (feed_of (after state item) front.0).fault) (step-roster platform item)
-                  ∙ sym (end-read platform.roster (state.number + 1) item (feed_of (after state item) front.0).items (feed_of (after state item) front.0).fault read)
-                  ∙ ap (λ (f : Feed). end_of platform.roster (state.number + 1) f.items f.fault) (sym feed_is))
-                  h.ended;
-              through = λ is. h.through is ∙ ap (λ (f : Feed). Some f.left) (sym feed_is);
-              written = wrote_after (output_from platform state) (output_from (step platform item) (after state item)) (StopsFrom platform state) (StopsFrom (step platform item) (after state item))
-                  (record_octets item) (put_out platform item) output-more stops-more octets front.0 front.2 before between wrote answer later final h.written;
-            },
-      )
+  pub output-octets : item.kind ≡ kind.Octets → output p item ≡ flat_map turn_output (octets_turns p item.source item.body)
+  unfolding output
+  output-octets is = rw is refl
 
--- ---- where the feed goes on
+  pub output-closed : item.kind ≡ kind.Closed → output p item ≡ flat_map turn_output (end_turns p item.source)
+  unfolding output
+  output-closed is = rw is refl
 
-pub goes_with_next : (old new : Platform) (state next : FeedState) (item : FeedRecord) → GoesWith old state → fault_of state item ≡ None → is_finish item.kind ≡ false
-    → new ≡ step old item → next ≡ after state item → GoesWith new next
-goes_with_next old new state next item h lawful further stepped noted = rw (stepped, noted) (record {
-  going = further;
-  numbers = step-numbers state.last old item (new_number state item (lawful_parts state item lawful).body) h.numbers;
-})
+  pub output-time : item.kind ≡ kind.Time → output p item ≡ flat_map turn_output (time_turns p (moment_of item.body))
+  unfolding output
+  output-time is = rw is refl
 
-pub is_next : (platform : Platform) (state : FeedState) (item : FeedRecord) → GoesWith platform state → IsRecord item → fault_of state item ≡ None → unread_fault platform.roster item ≡ None → IsNext platform item
-is_next platform state item h form lawful read = record {
-  form = form;
-  len = lawful_length state item lawful;
-  new = λ is. all_below state.last item.source platform.connections (new_number state item (lawful_parts state item lawful).body is) h.numbers;
-  read = read;
-}
+  pub output-drain : item.kind ≡ kind.Drain → output p item ≡ drain_output p
+  unfolding output
+  output-drain is = rw is refl
 
-pub answers_from : (p q : Platform) (s t : FeedState) (answer : Status) (octets : List ℕ) (now before final : Option (List ℕ)) → p ≡ q → s ≡ t
-    → AnswersFrom p s answer octets now before final → AnswersFrom q t answer octets now before final
-answers_from p q s t answer octets now before final a b h = rw (← a, ← b) h
+  -- a record that says nothing here
+  pub step-nothing : (k : Kind) → item.kind ≡ k → (k ≡ kind.Roster) ⊎ ((k ≡ kind.Links) ⊎ ((k ≡ kind.Slice) ⊎ (k ≡ kind.Finish))) → step p item ≡ p
+  unfolding step
+  step-nothing k is (inl roster) = rw (is, roster) refl
+  step-nothing k is (inr (inl links)) = rw (is, links) refl
+  step-nothing k is (inr (inr (inl slice))) = rw (is, slice) refl
+  step-nothing k is (inr (inr (inr finish))) = rw (is, finish) refl
+
+  pub output-nothing : (k : Kind) → item.kind ≡ k → (k ≡ kind.Roster) ⊎ ((k ≡ kind.Links) ⊎ ((k ≡ kind.Slice) ⊎ (k ≡ kind.Finish))) → output p item ≡ []
+  unfolding output
+  output-nothing k is (inl roster) = rw (is, roster) refl
+  output-nothing k is (inr (inl links)) = rw (is, links) refl
+  output-nothing k is (inr (inr (inl slice))) = rw (is, slice) refl
+  output-nothing k is (inr (inr (inr finish))) = rw (is, finish) refl

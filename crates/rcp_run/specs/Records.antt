@@ -1,7 +1,7 @@
--- The records that the engine takes.
+-- The records that are taken.
 use Rattle.std.specs.Prelude.{◌≡◌, ◌<◌, true, length, None}
 use Rattle.std.specs.List.{AllByRecursion}
-use Rattle.rcp_base.specs.Feed.{FeedRecord, IsRecord, has_length, begins}
+use Rattle.rcp_base.specs.Feed.{FeedRecord, IsRecord, begins, has_length}
 use Rattle.rcp_model.specs.Meaning.{Platform}
 use Rattle.rcp_model.specs.WholeFeed.{unread_fault}
 

@@ -16,8 +16,17 @@
 //! ```
 #![tactic(auto)]
 
+mod announcements;
+mod costs;
 mod engine;
+mod offers;
+mod output;
+mod prefixes;
 mod replay;
+mod table;
 
 pub use feed_format::{FeedWhy, RosterWhy, Status};
 pub use replay::run;
+
+#[cfg(test)]
+mod tests;

@@ -3,7 +3,7 @@ use Rattle.std.specs.Prelude.{IfSome}
 use Rattle.rcp_base.specs.Feed.{FeedState, FeedRecord, fault_of, after}
 use Rattle.rcp_model.specs.Rosters.{roster_in}
 use Rattle.feed_format.specs.Reading.{Refuses, TakesLess}
-use Rattle.rcp_run.proofs.RecordLemmas.{answers_from}
+use Rattle.rcp_run.proofs.ReplayLemmas.{answers_from}
 use Rattle.rcp_run.proofs.BeginLemmas.{first-refused, faulty_roster-ends, begins, goes_with_first}
 use Rattle.rcp_run.proofs.replay.begin.Goals as goal
 

@@ -7,7 +7,7 @@ use Rattle.feed_format.specs.Reading.{Refuses, TakesLess}
 use Rattle.feed_format.specs.Writing.{WritesLess}
 use Rattle.feed_format.proofs.AgainLemmas.{lawful_length}
 use Rattle.rcp_run.specs.State.{platform_in}
-use Rattle.rcp_run.proofs.RecordLemmas.{refuses-ends, unread-ends, finish-ends, write-ends, goes_on, goes_with_next, is_next, answers_from}
+use Rattle.rcp_run.proofs.ReplayLemmas.{refuses-ends, unread-ends, finish-ends, write-ends, goes_on, goes_with_next, is_next, answers_from}
 use Rattle.rcp_run.proofs.replay.turn.Goals as goal
 
 pub returns-in-Err-clause-ends : goal.returns-in-Err-clause-ends
