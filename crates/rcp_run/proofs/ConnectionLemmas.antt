@@ -1,16 +1,15 @@
 -- Connections by their numbers: one that is put in its place or taken away, and what stays rising.
-use Rattle.std.proofs.Common.{◌≡◌, ℕ, zero, suc, ◌+◌, ◌<◌, Bool, true, false, cond, not, ◌&&◌, ◌||◌, eqb, List, [], ◌∷◌, ◌++◌, length, map, set, get_or, take, drop, filter, Option, Some, None, refl, sym, ap, subst, ◌∙◌, inl, inr, arith, add-one}
+use Rattle.std.proofs.Common.{◌≡◌, ℕ, zero, suc, ◌+◌, ◌<◌, Bool, true, false, cond, not, ◌&&◌, ◌||◌, eqb, List, [], ◌∷◌, ◌++◌, length, set, get_or, take, drop, filter, None, refl, sym, ap, subst, ◌∙◌, inl, inr, arith, add-one}
 use Rattle.std.specs.List.{list_any, remove, AllByRecursion}
-use Rattle.std.proofs.lemmas.Bool.{cases_Bool, eqb-true, both_ways}
-use Rattle.rcp_model.specs.Maps.{get_at, set_at, put_at, without}
+use Rattle.std.proofs.lemmas.Bool.{cases_Bool, eqb-true}
+use Rattle.rcp_model.specs.Maps.{get_at, set_at}
 use Rattle.rcp_model.specs.LinkState.{same_number}
 use Rattle.rcp_model.specs.Sessions.{SessionState, is_closed}
 use Rattle.rcp_model.specs.Meaning.{Connections, connection_at, if_open, is_slot, is_free, seat_of}
-use Rattle.rcp_model.proofs.ServerLemmas.{number_test}
 use Rattle.rcp_run.specs.declared.engine.Connection.{Connection}
 use Rattle.rcp_run.specs.State.{connection_in, connections_in, AreNumbered, numbers_of}
-use Rattle.rcp_run.proofs.ListMaps.{IsPlace, get_found, without_found, put_found, all_removed}
-use Rattle.rcp_run.proofs.EventLemmas.{put_new, without_nothing, all_filter}
+use Rattle.rcp_run.proofs.ListMaps.{IsPlace, without_found, put_found, all_removed}
+use Rattle.rcp_run.proofs.EventLemmas.{without_nothing}
 
 -- ---- lists
 

@@ -1,11 +1,10 @@
 -- The decision on lists: candidates one after the other, the nearest of those passed, and the offer.
-use Rattle.std.proofs.Common.{◌≡◌, ℕ, zero, suc, ◌+◌, ◌<◌, ◌≤◌, Bool, true, false, cond, ltb, List, [], ◌∷◌, ◌++◌, length, get_or, take, drop, Bor, Option, Some, None, option_map, IfSome, MatchOption, slice_get, refl, sym, ap, subst, ◌∙◌, arith, add-one, append_assoc, append-nil, eq-eqb, ne_eqb}
+use Rattle.std.proofs.Common.{◌≡◌, ℕ, zero, suc, ◌+◌, ◌<◌, ◌≤◌, Bool, cond, List, [], ◌∷◌, ◌++◌, length, get_or, take, drop, Bor, Option, Some, None, option_map, IfSome, MatchOption, slice_get, refl, sym, ap, subst, ◌∙◌, arith, add-one, append_assoc, append-nil, eq-eqb, ne_eqb}
 use Rattle.std.proofs.Math.Path.{fun_ext}
 use Rattle.std.specs.List.{list_any, AllByRecursion}
 use Rattle.std.proofs.Math.Seq.{drop-cons}
 use Rattle.std.proofs.Math.ListN.{drop_of_length-le}
 use Rattle.std.proofs.lemmas.List.{take_more, take_all}
-use Rattle.std.proofs.lemmas.Bool.{ltb-true, ltb-false}
 use Rattle.rcp_base.specs.IpPrefix.{IpPrefix}
 use Rattle.rcp_base.specs.declared.names.Member.{Member}
 use Rattle.rcp_model.specs.declared.event.Edge.{Edge}

@@ -1,12 +1,11 @@
 -- What a drain does: the tables of the routers, and what each connection is told.
-use Rattle.std.proofs.Common.{◌≡◌, ℕ, suc, ◌+◌, ◌-◌, ◌^◌, ◌<◌, ◌≤◌, min, Bool, true, false, cond, not, ◌||◌, List, [], ◌∷◌, ◌++◌, length, map, set, get_or, take, drop, filter, slice_get, Vec, Option, Some, None, option_map, refl, sym, ap, ◌∙◌, inl, inr, arith, add-one, append_assoc, append-nil, eqb, ltb}
-use Rattle.std.specs.Global.{Global}
-use Rattle.std.specs.List.{flat_map, AllByRecursion}
+use Rattle.std.proofs.Common.{◌≡◌, ℕ, suc, ◌+◌, ◌-◌, ◌^◌, ◌<◌, ◌≤◌, min, Bool, true, false, cond, not, List, [], ◌∷◌, ◌++◌, length, map, set, get_or, take, drop, filter, slice_get, Option, Some, None, option_map, refl, sym, ap, ◌∙◌, inl, inr, arith, add-one, append_assoc, append-nil, eqb}
+use Rattle.std.specs.List.{AllByRecursion}
 use Rattle.std.specs.Int.{w64, to_be_bytes}
 use Rattle.std.proofs.Math.Seq.{drop-cons}
 use Rattle.std.proofs.Math.ListN.{drop_of_length-le}
 use Rattle.std.proofs.lemmas.List.{take_all}
-use Rattle.std.proofs.lemmas.Bool.{cases_Bool, or_parts, or_cases, or_left, or_right, eqb-true, both_ways, ltb-true, ltb-false}
+use Rattle.std.proofs.lemmas.Bool.{cases_Bool, or_parts, or_cases, or_left, or_right, eqb-true, both_ways}
 use Rattle.rcp_base.specs.IpPrefix.{IpPrefix}
 use Rattle.rcp_base.specs.Feed.{OutRecord}
 use Rattle.rcp_base.specs.declared.names.Member.{Member}

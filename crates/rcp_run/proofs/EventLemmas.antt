@@ -1,14 +1,14 @@
 -- What a session tells, done to the server that the lists mean.
-use Rattle.std.proofs.Common.{◌≡◌, ℕ, Bool, true, false, not, ◌&&◌, eqb, List, [], ◌∷◌, ◌++◌, map, filter, Option, Some, None, option_map, refl, sym, ap, ◌∙◌, inl, inr}
+use Rattle.std.proofs.Common.{◌≡◌, ℕ, Bool, true, false, not, eqb, List, [], ◌∷◌, ◌++◌, map, filter, Option, Some, None, option_map, refl, sym, ap, ◌∙◌, inl, inr}
 use Rattle.std.specs.List.{AllByRecursion}
-use Rattle.std.proofs.lemmas.Bool.{cases_Bool, eqb-true, eq-eqb, not-true, not-false}
+use Rattle.std.proofs.lemmas.Bool.{cases_Bool, eqb-true, eq-eqb, not-false}
 use Rattle.std.proofs.lemmas.Slice.Eq.{bytes_eq-Decides}
 use Rattle.rcp_base.specs.IpPrefix.{IpPrefix}
 use Rattle.rcp_model.specs.Maps.{get_at, put_at, set_at, without, include, include_all}
 use Rattle.rcp_model.specs.LinkState.{same_number}
 use Rattle.rcp_model.specs.Updates.{Table}
 use Rattle.rcp_model.specs.Control.{Domain, Place, Announcements, Server, ServerEvent, Up, Down, Change, same_place, same_octets, announced_by, announced_prefixes, of_slot, is_connected, after, after_all}
-use Rattle.rcp_model.specs.Sessions.{Doing, SessionEvent}
+use Rattle.rcp_model.specs.Sessions.{Doing}
 use Rattle.rcp_model.specs.Telling.{IsTold}
 use Rattle.rcp_model.specs.Meaning.{server_event, seat_events, end_events}
 use Rattle.session_core.specs.declared.actions.SessionEvent.{SessionEvent as Told}

@@ -7,7 +7,7 @@ use Rattle.outside.specs.Told.{in_front}
 use Rattle.rcp_base.specs.declared.kinds.FeedWhy.{FeedWhy}
 use Rattle.rcp_base.specs.declared.kinds.FeedWhy.TheVariants as why
 use Rattle.rcp_base.specs.Checks.{first_failing, unless}
-use Rattle.rcp_base.specs.Feed.{FeedState, FeedRecord, Feed, IsRecord, begins, is_time, moment_of, is_finish, record_in, frame_size, record_octets, frame_checks, body_checks, checks, fault_of, fault_in_front, front, after, with_first, feed_within, feed_of}
+use Rattle.rcp_base.specs.Feed.{FeedState, FeedRecord, Feed, IsRecord, begins, is_time, moment_of, is_finish, record_in, frame_size, record_octets, frame_checks, body_checks, fault_of, fault_in_front, front, after, with_first, feed_within, feed_of}
 use Rattle.feed_format.proofs.FrontLemmas.{passes_first}
 use Rattle.feed_format.proofs.AgainLemmas.{front_again}
 

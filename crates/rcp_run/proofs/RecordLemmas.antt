@@ -1,11 +1,10 @@
 -- What the record of each kind means, and what is known of it where it is lawful.
-use Rattle.std.proofs.Common.{◌≡◌, ℕ, Bool, true, false, cond, List, [], length, Option, Some, None, refl, sym, ap, ◌∙◌, ◌⊎◌, inl, inr, Result, Ok, Err, eqb}
+use Rattle.std.proofs.Common.{◌≡◌, true, cond, [], length, Some, None, refl, sym, ◌⊎◌, inl, inr, Result, Ok, Err, eqb}
 use Rattle.std.specs.Prelude.{is_some, OnOk, IfOk}
 use Rattle.std.specs.List.{flat_map}
 use Rattle.std.proofs.lemmas.Bool.{eqb-true}
 use Rattle.rcp_base.specs.declared.kinds.Kind.{Kind}
 use Rattle.rcp_base.specs.declared.kinds.Kind.TheVariants as kind
-use Rattle.rcp_base.specs.declared.kinds.FeedWhy.{FeedWhy}
 use Rattle.rcp_base.specs.declared.kinds.FeedWhy.TheVariants as why
 use Rattle.rcp_base.specs.Feed.{FeedRecord, moment_of, has_length}
 use Rattle.rcp_model.specs.Rosters.{RosterOf}

@@ -1,14 +1,13 @@
 -- A moment comes to each session, one after another.
-use Rattle.std.proofs.Common.{◌≡◌, ℕ, zero, suc, ◌+◌, ◌<◌, ◌≤◌, List, [], ◌∷◌, ◌++◌, length, map, set, get_or, take, drop, refl, sym, ap, ◌∙◌, arith, add-one, append_assoc, append-nil}
-use Rattle.std.specs.List.{flat_map, AllByRecursion}
-use Rattle.std.proofs.Math.Seq.{drop-cons}
+use Rattle.std.proofs.Common.{◌≡◌, ℕ, suc, ◌+◌, ◌<◌, ◌≤◌, List, [], ◌++◌, length, map, set, get_or, take, drop, refl, sym, ap, ◌∙◌, add-one, append_assoc, append-nil}
+use Rattle.std.specs.List.{flat_map}
 use Rattle.std.proofs.Math.ListN.{drop_of_length-le}
-use Rattle.std.proofs.lemmas.List.{take_more, take_all}
+use Rattle.std.proofs.lemmas.List.{take_all}
 use Rattle.rcp_base.specs.Feed.{OutRecord}
 use Rattle.rcp_model.specs.Rosters.{RosterOf}
-use Rattle.rcp_model.specs.Sessions.{SessionState, Moment, answer}
-use Rattle.rcp_model.specs.Control.{Domain, Server, ServerEvent, after_all}
-use Rattle.rcp_model.specs.Meaning.{Connections, Turn, simple_turn, turn_events, turn_output}
+use Rattle.rcp_model.specs.Sessions.{Moment}
+use Rattle.rcp_model.specs.Control.{Domain, Server, after_all}
+use Rattle.rcp_model.specs.Meaning.{Connections, simple_turn, turn_events, turn_output}
 use Rattle.rcp_run.specs.declared.engine.Connection.{Connection}
 use Rattle.rcp_run.specs.State.{connection_in, connections_in}
 use Rattle.rcp_run.specs.Turns.{timed_in}

@@ -1,20 +1,20 @@
 -- What the turns of a record do to the platform.
-use Rattle.std.proofs.Common.{◌≡◌, ℕ, zero, suc, ◌+◌, ◌<◌, Bool, true, false, cond, not, ◌&&◌, eqb, List, [], ◌∷◌, ◌++◌, length, map, set, get_or, take, drop, filter, Option, Some, None, refl, sym, ap, subst, ◌∙◌, inl, inr, arith, add-one, append_assoc, append-nil}
-use Rattle.std.specs.List.{list_any, position, remove, flat_map, AllByRecursion}
+use Rattle.std.proofs.Common.{◌≡◌, ℕ, ◌+◌, ◌<◌, Bool, true, false, cond, not, ◌&&◌, eqb, List, [], ◌∷◌, ◌++◌, length, map, set, get_or, take, drop, filter, Option, Some, None, refl, sym, ap, subst, ◌∙◌, inl, inr, arith, append-nil}
+use Rattle.std.specs.List.{position, flat_map, AllByRecursion}
 use Rattle.std.proofs.lemmas.Bool.{cases_Bool, eqb-true, eq-eqb}
 use Rattle.std.proofs.lemmas.List.{map-append}
 use Rattle.rcp_model.proofs.ServerLemmas.{number_test}
 use Rattle.rcp_base.specs.Feed.{OutRecord}
 use Rattle.rcp_model.specs.Rosters.{RosterOf}
-use Rattle.rcp_model.specs.Maps.{get_at, set_at, put_at, without}
+use Rattle.rcp_model.specs.Maps.{set_at, without}
 use Rattle.rcp_model.specs.LinkState.{same_number}
-use Rattle.rcp_model.specs.Control.{Domain, Server, ServerEvent, Up, after, after_all}
-use Rattle.rcp_model.specs.Sessions.{SessionState, Input, Octets, Seat, Moment, End, Answer, Doing, is_closed, then_also, answer, begun, begun_established, later_of, stepped, seat_taken}
+use Rattle.rcp_model.specs.Control.{Domain, Server, after, after_all}
+use Rattle.rcp_model.specs.Sessions.{SessionState, Input, Octets, Seat, Moment, Answer, Doing, is_closed, then_also, answer, begun, begun_established, stepped, seat_taken}
 use Rattle.rcp_model.specs.Telling.{AreOctets, BringsOctets, IsTold}
 use Rattle.rcp_model.specs.Meaning.{Connections, Platform, Turn, domain_of, turn, simple_turn, octets_turn, ready_turn, claim_turn, connection_at, if_open, is_slot, is_free, seat_of, seat_events, turn_events, turn_output, messages_to, end_record, after_turn, after_turns}
 use Rattle.session_core.specs.declared.actions.Actions.{Actions}
 use Rattle.session_core.specs.Shown.{doing_of}
-use Rattle.session_core.specs.Held.{Held, Answers}
+use Rattle.session_core.specs.Held.{Answers}
 use Rattle.rcp_run.specs.declared.engine.Connection.{Connection}
 use Rattle.rcp_run.specs.State.{connection_in, connections_in, AreNumbered, numbers_of, IsWhole}
 use Rattle.rcp_run.specs.Turns.{TookTurn, timed_in}

@@ -22,7 +22,7 @@ use Rattle.rcp_run.specs.declared.table.Cell.{Cell}
 use Rattle.rcp_run.specs.declared.costs.Reached.{Reached}
 use Rattle.rcp_run.specs.declared.engine.events.Router.{Router}
 use Rattle.rcp_run.specs.declared.engine.events.Server.{Server}
-use Rattle.rcp_run.specs.declared.engine.drain.Told.{Told}
+use Rattle.rcp_run.specs.declared.engine.told.Told.{Told}
 use Rattle.rcp_run.specs.declared.engine.Connection.{Connection}
 use Rattle.rcp_run.specs.declared.engine.Engine.{Engine}
 
@@ -102,6 +102,10 @@ pub record IsSound (e : Engine) : Type 0 where
   pub numbered : AreNumbered (numbers_of (connections_in e.connections.items))
   pub sessions : AllByRecursion IsWhole e.connections.items
   pub counted : e.updates < 2 ^ 64
+
+-- messages of at most 4,096 octets (RFC 4271 section 4.1)
+abbrev pub AreShort : List (Vec ℕ Global) → Type 0
+AreShort messages = All (λ message. length message.items ≤ 4096) messages
 
 -- each record's length has room in its frame
 abbrev pub AreFramed : List OutRecord → Type 0

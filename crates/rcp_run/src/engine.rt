@@ -17,6 +17,7 @@ ghost use Rattle.rcp_run.specs.State.{platform_in, IsSound};
 
 mod drain;
 mod events;
+mod told;
 mod turns;
 
 use events::Server;

@@ -5,7 +5,7 @@ ghost use Rattle.std.specs.Int.{w64, to_be_bytes};
 ghost use Rattle.rcp_model.specs.Sessions.{Ending};
 ghost use Rattle.rcp_model.specs.Meaning.{MESSAGE as MESSAGE_KIND, SUMMARY as SUMMARY_KIND, cell_update, messages_to, end_record, reason_number};
 ghost use Rattle.session_core.specs.Shown.{reason_of, ending_of};
-ghost use Rattle.rcp_run.specs.State.{AreFramed, octets_in};
+ghost use Rattle.rcp_run.specs.State.{AreFramed, AreShort, octets_in};
 
 use bgp_msg::{MOST_OCTETS, write_update};
 use feed_format::Out;
@@ -23,7 +23,8 @@ const SUMMARY: u8 = b'S';
 /// The UPDATE that announces one prefix.
 pub fn announcement(alloc: Global, attrs: &[u8], prefix: Prefix) -> Result<Vec<u8>, NoMemory>
     requires { length attrs.now ≤ 4068 }
-    ensures { IfOk result (λ message. message.items ≡ cell_update prefix (Some attrs.now)) }
+    ensures octets { IfOk result (λ message. message.items ≡ cell_update prefix (Some attrs.now)) }
+    ensures short { IfOk result (λ message. length message.items ≤ 4096) }
 {
     let mut message = [0; MOST_OCTETS];
     let count = write_update(&[], attrs, &[prefix], &mut message).unwrap();
@@ -32,7 +33,8 @@ pub fn announcement(alloc: Global, attrs: &[u8], prefix: Prefix) -> Result<Vec<u
 
 /// The UPDATE that withdraws one prefix.
 pub fn withdrawal(alloc: Global, prefix: Prefix) -> Result<Vec<u8>, NoMemory>
-    ensures { IfOk result (λ message. message.items ≡ cell_update prefix None) }
+    ensures octets { IfOk result (λ message. message.items ≡ cell_update prefix None) }
+    ensures short { IfOk result (λ message. length message.items ≤ 4096) }
 {
     let mut message = [0; MOST_OCTETS];
     let count = write_update(&[prefix], &[], &[], &mut message).unwrap();
@@ -45,7 +47,8 @@ pub fn add_messages(
     connection: u32,
     messages: Vec<Vec<u8>>,
 ) -> Result<(), NoMemory>
-    requires { AreFramed out.old.items }
+    requires framed { AreFramed out.old.items }
+    requires short { AreShort messages.items }
     ensures records { OnOk result (out.new.items ≡ out.old.items ++ messages_to connection (octets_in messages.items)) }
     ensures framed { OnOk result (AreFramed out.new.items) }
 {
@@ -55,16 +58,14 @@ pub fn add_messages(
     Ok(())
 }
 
-/// Adds a message to a connection. There is no memory for a message that a frame has no room for.
+/// Adds a message to a connection.
 pub fn add_message(out: &mut Vec<Out>, connection: u32, message: Vec<u8>) -> Result<(), NoMemory>
-    requires { AreFramed out.old.items }
+    requires framed { AreFramed out.old.items }
+    requires short { length message.items ≤ 4096 }
     ensures records { OnOk result (out.new.items
         ≡ out.old.items ++ record { kind = MESSAGE_KIND; connection = connection; body = message.items } ∷ []) }
     ensures framed { OnOk result (AreFramed out.new.items) }
 {
-    if message.len() > u32::MAX as usize {
-        return Err(NoMemory);
-    }
     out.push(Out {
         kind: MESSAGE,
         connection,

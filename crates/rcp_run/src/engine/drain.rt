@@ -7,12 +7,13 @@ ghost use Rattle.rcp_model.specs.Edges.{rising_edges};
 ghost use Rattle.rcp_model.specs.LinkState.{same_number};
 ghost use Rattle.rcp_model.specs.Control.{slot_cost};
 ghost use Rattle.rcp_model.specs.Meaning.{drain, drain_output, summary, messages_to, slot_in};
-ghost use Rattle.rcp_run.specs.State.{table_in, tables_in, connections_in, server_in, platform_in, IsKept, IsSound, AreFramed, costs_in, offers_to, table_told, tables_told, updates_told, messages_told, cell_told, octets_in, told_in, told_to, messages_of, records_told};
+ghost use Rattle.rcp_run.specs.State.{table_in, tables_in, connections_in, server_in, platform_in, IsKept, IsSound, AreFramed, AreShort, costs_in, offers_to, table_told, tables_told, updates_told, messages_told, cell_told, octets_in, told_in, told_to, messages_of, records_told};
 
 use super::{Connection, Engine};
 use crate::announcements::Announcement;
 use crate::costs::{Reached, costs};
 use crate::engine::events::Server;
+use crate::engine::told::Told;
 use crate::offers::offer;
 use crate::output::{add_messages, add_summary, announcement, withdrawal};
 use crate::prefixes::announced;
@@ -21,13 +22,6 @@ use feed_format::Out;
 use rcp_base::{NoMemory, Prefix, Slot};
 use roster::Roster;
 use std::alloc::Global;
-
-/// The UPDATEs for the router of a slot.
-#[derive(Debug, Drop)]
-pub struct Told {
-    slot: Slot,
-    messages: Vec<Vec<u8>>,
-}
 
 impl Engine {
     /// Each pending prefix is decided for each connected router. What each is told of those that change for it is put out,
@@ -107,6 +101,7 @@ fn decide(
     ensures table { OnOk result (table_in table.new.items ≡ table_told (offers_to roster.now announcements.now slot) prefixes.now (table_in table.old.items)) }
     ensures messages { IfOk result (λ messages. octets_in messages.items
         ≡ updates_told (offers_to roster.now announcements.now slot) prefixes.now (table_in table.old.items)) }
+    ensures short { IfOk result (λ messages. AreShort messages.items) }
 {
     let reached = reached_from(alloc, roster, slot)?;
     let mut messages = Vec::new(alloc);
@@ -130,6 +125,7 @@ fn tell(
         ≡ set_at same_prefix prefix (option_map (λ attrs. attrs.now) offered.entry) (table_in table.old.items)) }
     ensures messages { OnOk result (octets_in messages.new.items
         ≡ octets_in messages.old.items ++ cell_told prefix (option_map (λ attrs. attrs.now) offered.entry) (table_in table.old.items)) }
+    ensures short { AreShort messages.old.items → OnOk result (AreShort messages.new.items) }
 {
     match offered {
         None => {
@@ -167,7 +163,8 @@ fn records_of(
 
 /// A copy of what the router of a slot is told.
 fn copy_told(alloc: Global, told: &[Told], slot: Slot) -> Result<Vec<Vec<u8>>, NoMemory>
-    ensures { IfOk result (λ messages. octets_in messages.items ≡ messages_of (get_at same_number slot (told_in told.now))) }
+    ensures octets { IfOk result (λ messages. octets_in messages.items ≡ messages_of (get_at same_number slot (told_in told.now))) }
+    ensures short { IfOk result (λ messages. AreShort messages.items) }
 {
     match place_of(told, slot) {
         None => Ok(Vec::new(alloc)),

@@ -24,11 +24,19 @@ fn first_faulty_record_ends_the_run(rt: HostRuntime) -> Result<(), Fail> {
         (b"B\0\0\0\0\0\0\0\0", 3, FeedWhy::BadBody),
         (b"U\0\0\0\x01\0\0\0\0", 3, FeedWhy::Twice),
         (b"E\0\0\0\x01\0\0\0\x04\x0a\0\0\x02", 3, FeedWhy::Twice),
-        (b"E\0\0\0\x02\0\0\0\x04\x0a\0\0\x09", 3, FeedWhy::UnknownRouter),
+        (
+            b"E\0\0\0\x02\0\0\0\x04\x0a\0\0\x09",
+            3,
+            FeedWhy::UnknownRouter,
+        ),
         (b"E\0\0\0\x01\0\0\0\x04\x0a\0\0\x09", 3, FeedWhy::Twice),
         (b"L\0\0\0\0\0\0\0\0", 3, FeedWhy::BadBody),
         (b"W\0\0\0\0\0\0\0\x06\0\0\0\0\0\x01", 3, FeedWhy::BadBody),
-        (b"T\0\0\0\0\0\0\0\x08\0\0\0\0\0\0\0\x0aT\0\0\0\0\0\0\0\x08\0\0\0\0\0\0\0\x09", 4, FeedWhy::ClockBack),
+        (
+            b"T\0\0\0\0\0\0\0\x08\0\0\0\0\0\0\0\x0aT\0\0\0\0\0\0\0\x08\0\0\0\0\0\0\0\x09",
+            4,
+            FeedWhy::ClockBack,
+        ),
         (b"X\0\0\0\x07\0\0\0\0?\0\0\0\0\0\0\0\0", 4, FeedWhy::Kind),
     ];
     for (tail, number, why) in feeds {
@@ -99,7 +107,15 @@ fn first_faulty_line_of_the_roster_ends_the_run(rt: HostRuntime) -> Result<(), F
         let roster = with_line(rt.alloc(), at, text)?;
         add(&mut feed, b'C', 0, roster.as_bytes())?;
         let (status, written) = replayed(&rt, rt.alloc(), feed)?;
-        assert_eq!(rt; status, Status::Roster { number: 1, line, why }, "at {text}");
+        assert_eq!(rt;
+            status,
+            Status::Roster {
+                number: 1,
+                line,
+                why
+            },
+            "at {text}"
+        );
         assert_eq!(rt; status.code(), 4);
         assert!(rt; written.is_empty());
     }

@@ -1,7 +1,8 @@
 //! Sessions that open, expire and fall, and octets in any pieces.
 
 use super::{
-    ANNOUNCEMENT, add, add_summary, announcement, begun, connected, decided, message, replayed, told,
+    ANNOUNCEMENT, add, add_summary, announcement, begun, connected, decided, message, replayed,
+    told,
 };
 use crate::Status;
 use std::alloc::Global;
@@ -85,7 +86,11 @@ fn octets_count_in_any_pieces(rt: HostRuntime) -> Result<(), Fail> {
         add(&mut feed, b'D', 0, &[])?;
         let written = output(&rt, alloc, feed)?;
         let wanted = told(alloc)?;
-        assert_eq!(rt; written.as_slice(), wanted.as_slice(), "in pieces of {length}");
+        assert_eq!(rt;
+            written.as_slice(),
+            wanted.as_slice(),
+            "in pieces of {length}"
+        );
     }
     Ok(())
 }
@@ -132,7 +137,11 @@ fn faulty_open_is_refused(rt: HostRuntime) -> Result<(), Fail> {
         let mut wanted = Vec::new(alloc);
         add(&mut wanted, b'B', 1, &OPEN)?;
         add_end(&mut wanted, alloc, 1, 1, notification)?;
-        assert_eq!(rt; written.as_slice(), wanted.as_slice(), "at {notification:?}");
+        assert_eq!(rt;
+            written.as_slice(),
+            wanted.as_slice(),
+            "at {notification:?}"
+        );
     }
     Ok(())
 }

@@ -1,7 +1,8 @@
 //! UPDATEs of any content: what they announce and withdraw, and how faulty ones are answered.
 
 use super::{
-    ANNOUNCEMENT, WITHDRAWAL, add, add_summary, announcement, connected, decided, message, replayed, told,
+    ANNOUNCEMENT, WITHDRAWAL, add, add_summary, announcement, connected, decided, message,
+    replayed, told,
 };
 use crate::Status;
 use std::alloc::Global;

@@ -1,5 +1,4 @@
-use Rattle.std.proofs.Common.{◌≡◌, ◌<◌, ◌++◌, List, length, get_or, sym, subst, ◌∙◌, ap, ◌+◌, drop, Vec, Global}
-use Rattle.rcp_base.specs.declared.names.Member.{Member}
+use Rattle.std.proofs.Common.{◌≡◌, ◌++◌, List, sym, subst, ◌∙◌, ap, ◌+◌, drop, Vec, Global}
 use Rattle.rcp_model.specs.Decision.{Contender}
 use Rattle.rcp_model.specs.Control.{candidates_from}
 use Rattle.rcp_model.specs.Meaning.{domain_of}

@@ -1,11 +1,7 @@
-use Rattle.std.proofs.Common.{◌≡◌, List, option_map, cond, ◌∙◌, ap, Bor, ℕ}
-use Rattle.std.specs.Prelude.{Some}
-use Rattle.std.specs.List.{list_any}
-use Rattle.rcp_base.specs.declared.names.Member.{Member}
+use Rattle.std.proofs.Common.{◌≡◌, List, option_map, ◌∙◌, Bor, ℕ}
 use Rattle.rcp_model.specs.Edges.{rising_edges}
-use Rattle.rcp_model.specs.Decision.{is_of, nearest}
 use Rattle.rcp_model.specs.Meaning.{domain_of}
-use Rattle.rcp_run.specs.State.{announcements_in, costs_in, offers_to}
+use Rattle.rcp_run.specs.State.{announcements_in, offers_to}
 use Rattle.rcp_run.proofs.DecisionLemmas.{chosen, short_if}
 use Rattle.rcp_run.proofs.offers.offer.Goals as goal
 

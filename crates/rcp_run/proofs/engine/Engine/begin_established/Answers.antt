@@ -1,14 +1,14 @@
-use Rattle.std.proofs.Common.{◌≡◌, ◌<◌, ◌≤◌, ◌^◌, ◌+◌, ◌-◌, ◌++◌, min, false, ℕ, Bool, Option, Some, None, List, [], ◌∷◌, length, cond, map, sym, ap, subst, ◌∙◌, refl, arith, Vec}
-use Rattle.std.specs.List.{flat_map, AllByRecursion}
-use Rattle.rcp_model.specs.Sessions.{Answer, SessionState, Doing, Phase, is_closed, begun, begun_established}
+use Rattle.std.proofs.Common.{◌≡◌, Some, List, sym, ap, subst, ◌∙◌, refl}
+use Rattle.std.specs.List.{AllByRecursion}
+use Rattle.rcp_model.specs.Sessions.{Answer, begun_established}
 use Rattle.rcp_model.specs.Telling.{AreOctets, IsTold}
-use Rattle.rcp_model.specs.Meaning.{Connections, Platform, Turn, turn, domain_of, ready_turn, slot_named, turn_output, is_free, after_turns}
+use Rattle.rcp_model.specs.Meaning.{Turn, turn, domain_of, is_free, after_turns}
 use Rattle.session_core.specs.Shown.{doing_of}
 use Rattle.rcp_run.specs.declared.engine.Connection.{Connection}
 use Rattle.rcp_run.specs.declared.engine.Engine.{Engine}
-use Rattle.rcp_run.specs.State.{connection_in, connections_in, server_in, platform_in, IsWhole}
+use Rattle.rcp_run.specs.State.{connections_in, server_in, platform_in, IsWhole}
 use Rattle.rcp_run.proofs.ConnectionLemmas.{all_push}
-use Rattle.rcp_run.proofs.TurnLemmas.{begun_one, numbered_more, served, put_out, ready-free, ready-taken, begun-still, established-still, no-octets-begun, no-octets-established, told-begun, told-established}
+use Rattle.rcp_run.proofs.TurnLemmas.{begun_one, numbered_more, served, ready-free, ready-taken, established-still, no-octets-established, told-established}
 use Rattle.rcp_run.proofs.engine.Engine.begin_established.Goals as goal
 
 pub returns-clause-platform : goal.returns-clause-platform

@@ -1,4 +1,4 @@
-use Rattle.std.proofs.Common.{◌≡◌, Option, Some, None, List, ℕ, ap, sym, ◌∙◌, cond, inl, inr}
+use Rattle.std.proofs.Common.{Option, Some, None, ℕ, ap, sym, ◌∙◌, cond, inl, inr}
 use Rattle.std.specs.Prelude.{is_some}
 use Rattle.rcp_base.specs.Feed.{FeedRecord}
 use Rattle.rcp_base.specs.declared.kinds.FeedWhy.TheVariants as why

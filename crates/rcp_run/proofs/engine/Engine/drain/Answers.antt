@@ -1,9 +1,9 @@
-use Rattle.std.proofs.Common.{◌≡◌, ◌++◌, ◌∷◌, [], ◌+◌, ◌-◌, ◌^◌, ℕ, List, Vec, length, min, sym, ap, subst, ◌∙◌, refl}
+use Rattle.std.proofs.Common.{◌≡◌, ◌++◌, ◌∷◌, [], ◌+◌, ◌-◌, ◌^◌, ℕ, List, Vec, length, min, ap, ◌∙◌, refl}
 use Rattle.std.specs.Global.{Global}
 use Rattle.rcp_base.specs.Feed.{OutRecord}
 use Rattle.rcp_model.specs.Meaning.{Platform, drain, drain_messages, summary}
 use Rattle.rcp_run.specs.declared.announcements.Announcement.{Announcement}
-use Rattle.rcp_run.specs.declared.engine.drain.Told.{Told}
+use Rattle.rcp_run.specs.declared.engine.told.Told.{Told}
 use Rattle.rcp_run.specs.declared.engine.Connection.{Connection}
 use Rattle.rcp_run.specs.declared.engine.events.Server.{Server}
 use Rattle.rcp_run.specs.declared.engine.Engine.{Engine}

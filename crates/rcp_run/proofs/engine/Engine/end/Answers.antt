@@ -1,13 +1,13 @@
-use Rattle.std.proofs.Common.{◌≡◌, ℕ, List, [], ◌∷◌, map, sym, ap, subst, ◌∙◌, refl}
+use Rattle.std.proofs.Common.{map, sym, ap, subst, ◌∙◌, refl}
 use Rattle.std.specs.List.{flat_map, AllByRecursion}
-use Rattle.rcp_model.specs.Sessions.{End, SessionState}
+use Rattle.rcp_model.specs.Sessions.{End}
 use Rattle.rcp_model.specs.Telling.{IsTold}
-use Rattle.rcp_model.specs.Meaning.{Connections, Platform, Turn, connection_at, domain_of, octets_turn, simple_turn, turn_output, after_turns}
+use Rattle.rcp_model.specs.Meaning.{Connections, connection_at, domain_of, simple_turn, turn_output, after_turns}
 use Rattle.session_core.specs.Shown.{doing_of}
 use Rattle.rcp_run.specs.declared.engine.Engine.{Engine}
-use Rattle.rcp_run.specs.State.{connection_in, connections_in, server_in, platform_in}
+use Rattle.rcp_run.specs.State.{connection_in, server_in, platform_in}
 use Rattle.rcp_run.specs.Turns.{TookTurn}
-use Rattle.rcp_run.proofs.TurnLemmas.{Found, found, not_found, Settled, settles, served, put_out, after_found, octets-number}
+use Rattle.rcp_run.proofs.TurnLemmas.{Found, found, not_found, Settled, settles, served, put_out, after_found}
 use Rattle.rcp_run.proofs.engine.Engine.end.Goals as goal
 
 pub returns-in_default-clause-platform : goal.returns-in_default-clause-platform

@@ -1,12 +1,11 @@
-use Rattle.std.proofs.Common.{◌≡◌, ℕ, List, filter, not, map, sym, ap, subst, ◌∙◌, refl}
+use Rattle.std.proofs.Common.{ℕ, List, not, sym, ap, subst, ◌∙◌, refl}
 use Rattle.std.specs.List.{AllByRecursion}
-use Rattle.rcp_base.specs.Feed.{moment_of}
-use Rattle.rcp_model.specs.Sessions.{SessionState, is_closed}
-use Rattle.rcp_model.specs.Meaning.{Connections, domain_of, after_turns}
+use Rattle.rcp_model.specs.Sessions.{is_closed}
+use Rattle.rcp_model.specs.Meaning.{domain_of, after_turns}
 use Rattle.rcp_run.specs.declared.engine.Connection.{Connection}
 use Rattle.rcp_run.specs.declared.engine.Engine.{Engine}
 use Rattle.rcp_run.specs.State.{connections_in, numbers_of, AreNumbered, IsWhole, platform_in}
-use Rattle.rcp_run.specs.Turns.{timed_in, time_turns}
+use Rattle.rcp_run.specs.Turns.{time_turns}
 use Rattle.rcp_run.proofs.EventLemmas.{all_filter}
 use Rattle.rcp_run.proofs.ConnectionLemmas.{numbered_filter}
 use Rattle.rcp_run.proofs.TurnLemmas.{time_passed, numbers_timed}

@@ -1,13 +1,12 @@
-use Rattle.std.proofs.Common.{◌≡◌, ◌<◌, ◌≤◌, ◌++◌, ◌∷◌, [], ℕ, List, Vec, length, sym, ap, subst, ◌∙◌, refl, arith}
+use Rattle.std.proofs.Common.{◌≡◌, ◌<◌, List, Vec, length, sym, ap, subst, ◌∙◌, refl, arith}
 use Rattle.std.specs.Global.{Global}
 use Rattle.std.specs.List.{AllByRecursion}
 use Rattle.std.proofs.lemmas.List.{map-append}
 use Rattle.rcp_base.specs.IpPrefix.{IpPrefix}
-use Rattle.rcp_model.specs.Updates.{Table}
 use Rattle.rcp_run.specs.declared.announcements.Announcement.{Announcement}
 use Rattle.rcp_run.specs.declared.engine.events.Router.{Router}
-use Rattle.rcp_run.specs.declared.engine.drain.Told.{Told}
-use Rattle.rcp_run.specs.State.{IsKept, table_in, tables_in, told_in, octets_in, offers_to, table_told, updates_told}
+use Rattle.rcp_run.specs.declared.engine.told.Told.{Told}
+use Rattle.rcp_run.specs.State.{IsKept, tables_in, told_in, octets_in, offers_to}
 use Rattle.rcp_run.proofs.DrainLemmas.{Working, working_first, working_more, working_last}
 use Rattle.rcp_run.proofs.engine.drain.work.Goals as goal
 

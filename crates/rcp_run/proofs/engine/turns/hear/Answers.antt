@@ -1,4 +1,4 @@
-use Rattle.std.proofs.Common.{◌≡◌, ◌<◌, ◌+◌, ◌&&◌, not, take, drop, Bool, Option, List, ℕ, length, set, sym, ap, subst, ◌∙◌, refl, cond}
+use Rattle.std.proofs.Common.{◌≡◌, ◌+◌, ◌&&◌, not, take, drop, Option, List, ℕ, set, sym, ap, subst, ◌∙◌, refl}
 use Rattle.rcp_model.specs.Rosters.{RosterOf}
 use Rattle.rcp_model.specs.Sessions.{Octets, Seat, answer}
 use Rattle.rcp_model.specs.Meaning.{octets_turn, is_slot, is_free, seat_of}

@@ -1,4 +1,4 @@
-use Rattle.std.proofs.Common.{◌≡◌, List, Option, option_map, sym, ap, ◌∙◌}
+use Rattle.std.proofs.Common.{Option, option_map, sym, ap, ◌∙◌}
 use Rattle.rcp_model.specs.Control.{Down, after_all}
 use Rattle.rcp_model.specs.Meaning.{end_events}
 use Rattle.session_core.specs.declared.actions.Closed.{Closed}

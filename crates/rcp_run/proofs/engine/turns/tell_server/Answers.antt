@@ -1,12 +1,8 @@
-use Rattle.std.proofs.Common.{◌≡◌, ℕ, List, map, option_map, Option, sym, ap, subst, ◌∙◌}
-use Rattle.std.specs.List.{AllByRecursion}
+use Rattle.std.proofs.Common.{ℕ, Option, sym, ap, ◌∙◌}
 use Rattle.rcp_model.specs.Control.{after_all}
-use Rattle.rcp_model.specs.Telling.{IsTold}
-use Rattle.rcp_model.specs.Sessions.{Doing, SessionEvent}
-use Rattle.rcp_model.specs.Meaning.{server_event, seat_events, end_events}
-use Rattle.session_core.specs.Shown.{event_of, ending_of}
+use Rattle.rcp_model.specs.Meaning.{seat_events}
 use Rattle.rcp_run.specs.State.{server_in}
-use Rattle.rcp_run.proofs.EventLemmas.{after_none, after_both, events-map, told-map}
+use Rattle.rcp_run.proofs.EventLemmas.{after_none, after_both, told-map}
 use Rattle.rcp_run.proofs.RecordLemmas.{on_ok}
 use Rattle.rcp_run.proofs.engine.turns.tell_server.Goals as goal
 

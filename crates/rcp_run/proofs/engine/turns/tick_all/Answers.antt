@@ -1,13 +1,11 @@
-use Rattle.std.proofs.Common.{◌≡◌, ◌<◌, ◌≤◌, ◌++◌, ℕ, List, [], length, sym, ap, ◌∙◌, refl, arith}
-use Rattle.std.specs.List.{AllByRecursion}
+use Rattle.std.proofs.Common.{◌<◌, ◌≤◌, ℕ, [], length, ap, refl, arith}
 use Rattle.rcp_model.specs.Rosters.{RosterOf}
-use Rattle.rcp_model.specs.Sessions.{Moment, Doing, answer}
+use Rattle.rcp_model.specs.Sessions.{Moment}
 use Rattle.rcp_model.specs.Control.{Domain}
 use Rattle.rcp_model.specs.Meaning.{simple_turn}
 use Rattle.rcp_run.specs.declared.engine.Connection.{Connection}
 use Rattle.rcp_run.specs.State.{IsWhole, connection_in, connections_in, server_in}
 use Rattle.rcp_run.proofs.ConnectionLemmas.{all_at, all_set}
-use Rattle.rcp_model.proofs.KeptLemmas.{told-answer}
 use Rattle.rcp_run.proofs.TurnLemmas.{whole_after, served, put_more, told_by}
 use Rattle.rcp_run.proofs.TickLemmas.{ticking_more, ticking_last}
 use Rattle.rcp_run.proofs.engine.turns.tick_all.Goals as goal

@@ -1,6 +1,6 @@
 -- The sessions so far had the moment, and with what the turns of the others do it is what all of them do.
-use Rattle.std.proofs.Common.{◌≡◌, ◌++◌, ℕ, List, map, take, drop, vec_len}
-use Rattle.std.specs.List.{flat_map, AllByRecursion}
+use Rattle.std.proofs.Common.{◌≡◌, ℕ, List, vec_len}
+use Rattle.std.specs.List.{AllByRecursion}
 use Rattle.rcp_model.specs.Rosters.{RosterOf}
 use Rattle.rcp_model.specs.declared.event.Edge.{Edge}
 use Rattle.rcp_model.specs.Control.{Domain}

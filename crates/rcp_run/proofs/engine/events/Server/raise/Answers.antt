@@ -1,4 +1,4 @@
-use Rattle.std.proofs.Common.{◌≡◌, ℕ, List, refl, sym, ap, subst, ◌∙◌}
+use Rattle.std.proofs.Common.{List, refl, sym, ap, subst, ◌∙◌}
 use Rattle.rcp_model.specs.Maps.{put_at, include_all}
 use Rattle.rcp_model.specs.LinkState.{same_number}
 use Rattle.rcp_model.specs.Control.{announced_prefixes}

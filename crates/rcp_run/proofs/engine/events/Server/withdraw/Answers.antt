@@ -1,6 +1,5 @@
-use Rattle.std.proofs.Common.{◌≡◌, ℕ, refl, sym, subst, ◌∙◌}
+use Rattle.std.proofs.Common.{refl, sym, subst, ◌∙◌}
 use Rattle.std.specs.Prelude.{None}
-use Rattle.std.proofs.lemmas.Bool.{not-true, not-false}
 use Rattle.rcp_run.specs.declared.engine.events.Server.{Server}
 use Rattle.rcp_run.specs.State.{server_in, IsRising}
 use Rattle.rcp_run.proofs.RisingLemmas.{rising-include}
