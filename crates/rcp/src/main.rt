@@ -1,13 +1,14 @@
-//! The program `rcp`: a command of `rcp_run` over standard input and output.
+//! The program `rcp`: a command of `rcp_run` over standard input and output, both of them buffered.
 //!
 //! It ends with the code of the status of its run, and says a status other than 0 in one line on standard error.
 #![tactic(auto)]
 
 mod standard;
 
+use outside::Failed;
 use rcp_run::{Status, run};
 use standard::{ReaderSource, WriterSink};
-use std::io::BufReader;
+use std::io::{BufReader, BufWriter};
 use std::process::ExitCode;
 use std::rt::Env;
 use std::thread::Threads;
@@ -34,9 +35,16 @@ fn run_words<R: AllocGlobal + Env + Input + Print + Threads + Sync>(rt: &R) -> S
     let Ok(reader) = BufReader::new(alloc, rt.reader()) else {
         return Status::NoMemory;
     };
+    let Ok(writer) = BufWriter::new(alloc, io::writer(rt)) else {
+        return Status::NoMemory;
+    };
     let mut source = ReaderSource::new(reader);
-    let mut sink = WriterSink::new(io::writer(rt));
-    run(rt, alloc, &words, &mut source, &mut sink)
+    let mut sink = WriterSink::new(writer);
+    let status = run(rt, alloc, &words, &mut source, &mut sink);
+    match sink.flush() {
+        Err(Failed) if status == Status::Done => Status::Write,
+        _ => status,
+    }
 }
 
 fn main(rt: HostRuntime) -> ExitCode {

@@ -62,6 +62,19 @@ impl<W> WriterSink<W> {
     }
 }
 
+impl<W: Write> WriterSink<W> {
+    /// Writes what a buffer holds. A failure counts as a fault.
+    pub fn flush(&mut self) -> Result<(), Failed> {
+        match self.writer.flush() {
+            Ok(()) => Ok(()),
+            Err(_) => {
+                self.faults = self.faults.saturating_add(1);
+                Err(Failed)
+            }
+        }
+    }
+}
+
 impl<W: Write> Sink for WriterSink<W> {
     ghost faults = { λ s. s.faults };
 

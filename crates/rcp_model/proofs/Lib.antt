@@ -11,6 +11,12 @@ pub mod MapLemmas
 pub mod OfferLemmas
 pub mod ServerLemmas
 pub mod RunLemmas
+pub mod ToldLemmas
+pub mod CourseLemmas
+pub mod KeptLemmas
+pub mod EventLemmas
+pub mod TurnLemmas
+pub mod SessionTurns
 pub mod MeaningLemmas
 pub mod CandidateLemmas
 pub mod FilterLemmas
@@ -18,7 +24,6 @@ pub mod GraphLemmas
 pub mod MemberLemmas
 pub mod WalkLemmas
 pub mod CodecLemmas
-pub mod RecordLemmas
 pub mod FaultlessLemmas
 pub mod Computed
 pub mod SessionLemmas

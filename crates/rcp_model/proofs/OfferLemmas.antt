@@ -56,7 +56,7 @@ offer-none domain a edges slot p h =
 
 -- ---- what holds of each candidate's slot holds of the choice
 
-filter-keeps : {X : Type 0} (P : X → Type 0) (test : X → Bool) (xs : List X) → AllByRecursion P xs → AllByRecursion P (filter test xs)
+pub filter-keeps : {X : Type 0} (P : X → Type 0) (test : X → Bool) (xs : List X) → AllByRecursion P xs → AllByRecursion P (filter test xs)
 filter-keeps P test [] h = tt
 filter-keeps P test (x ∷ xs) h =
     elim (cases_Bool (test x)) [

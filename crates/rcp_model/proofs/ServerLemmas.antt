@@ -11,7 +11,7 @@ use Rattle.rcp_model.specs.Updates.{Table}
 use Rattle.rcp_model.specs.LinkState.{same_number}
 use Rattle.rcp_model.specs.Control.{Domain, Place, Announcements, Server, Up, Down, Change, Work, same_place, announced_by, announced_prefixes, of_slot, same_octets, table_of, is_connected, is_touched, offer, worked, after}
 use Rattle.rcp_model.proofs.MapLemmas.{IsKeyTest, get_at-put_at_same, get_at-put_at_other, get_at-without_passed, get_at-without_left, get_at-set_at_same, get_at-set_at_other, same_prefix-is, same_prefix-itself, same_prefix-other, prefix_test, is_among-include, is_among-include_all}
-use Rattle.rcp_model.proofs.OfferLemmas.{offer-same, offer-none}
+use Rattle.rcp_model.proofs.OfferLemmas.{offer-same, offer-none, filter-keeps}
 
 -- ---- the tests of keys
 
@@ -90,14 +90,6 @@ include-form p (q ∷ ps) h hs =
 include_all-form : (ps qs : List IpPrefix) → AllByRecursion IsPrefix ps → AllByRecursion IsPrefix qs → AllByRecursion IsPrefix (include_all ps qs)
 include_all-form [] qs h hs = hs
 include_all-form (p ∷ ps) qs h hs = include_all-form ps (include p qs) h.1 (include-form p qs h.0 hs)
-
-filter-form : (test : IpPrefix → Bool) (ps : List IpPrefix) → AllByRecursion IsPrefix ps → AllByRecursion IsPrefix (filter test ps)
-filter-form test [] h = tt
-filter-form test (p ∷ ps) h =
-    elim (cases_Bool (test p)) [
-      | inl e ↦ rw e (h.0, filter-form test ps h.1)
-      | inr e ↦ rw e (filter-form test ps h.1)
-    ]
 
 put_at-form : (place : Place) (octets : List ℕ) (a : Announcements) → IsPrefix place.1 → AllByRecursion IsPrefix (announced_prefixes a) → AllByRecursion IsPrefix (announced_prefixes (put_at same_place place octets a))
 put_at-form place octets [] h hs = (h, tt)
@@ -340,6 +332,6 @@ settled-work domain p server h = record {
             get_at-set_at_other same_prefix prefix_test p q (offer domain server.announcements server.edges s p) before.0 (same_prefix-other p q e) e ∙ h.offers s before.0 q before.1 quiet
       ]);
   canonical = h.canonical;
-  touched = filter-form (λ q. not (same_prefix p q)) server.touched h.touched;
+  touched = filter-keeps IsPrefix (λ q. not (same_prefix p q)) server.touched h.touched;
   announced = h.announced;
 }

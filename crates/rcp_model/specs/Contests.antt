@@ -8,11 +8,11 @@ use Rattle.rcp_model.specs.Control.{Domain, Announcements}
 use Rattle.rcp_model.specs.Examples.{A, B, C, member, link}
 
 -- the routers A, B and C, in the slots 0, 1 and 2
-abbrev pub row : List Member
-row = member A ∷ member B ∷ member C ∷ []
+abbrev pub chain : List Member
+chain = member A ∷ member B ∷ member C ∷ []
 
-abbrev pub row_domain : Domain
-row_domain = record { as_number = 65000; members = row }
+abbrev pub chain_domain : Domain
+chain_domain = record { as_number = 65000; members = chain }
 
 -- a further router, 10.0.0.4
 abbrev pub F : ℕ

@@ -1,10 +1,11 @@
 -- The definitions at work: small networks whose outcome is known, as values that the definitions compute.
 use Rattle.std.specs.Prelude.{ℕ, List, [], ◌∷◌, ◌++◌}
 use Rattle.rcp_base.specs.declared.names.Member.{Member}
+use Rattle.rcp_base.specs.declared.kinds.Kind.TheVariants.{Ready, Octets, Drain}
+use Rattle.rcp_base.specs.Feed.{FeedRecord, OutRecord}
 use Rattle.rcp_model.specs.declared.event.Edge.{Edge}
 use Rattle.rcp_model.specs.Messages.{marker}
-use Rattle.rcp_model.specs.Feed.{FeedRecord, RosterOf, READY, OCTETS, DRAIN}
-use Rattle.rcp_model.specs.Meaning.{OutRecord}
+use Rattle.rcp_model.specs.Rosters.{RosterOf}
 
 -- routers 10.0.0.1, 10.0.0.2 and 10.0.0.3, whose BGP Identifiers are their router IDs
 abbrev pub A : ℕ
@@ -35,13 +36,13 @@ linked = record {
 }
 
 abbrev pub ready : ℕ → ℕ → FeedRecord
-ready number router = record { kind = READY; source = number; body = 10 ∷ 0 ∷ 0 ∷ router ∷ [] }
+ready number router = record { kind = Ready; source = number; body = 10 ∷ 0 ∷ 0 ∷ router ∷ [] }
 
 abbrev pub heard_on : ℕ → List ℕ → FeedRecord
-heard_on number octets = record { kind = OCTETS; source = number; body = octets }
+heard_on number octets = record { kind = Octets; source = number; body = octets }
 
 abbrev pub drain_record : FeedRecord
-drain_record = record { kind = DRAIN; source = 0; body = [] }
+drain_record = record { kind = Drain; source = 0; body = [] }
 
 -- the announcement of 203.0.113.0/24 by path 65001, with the next hop 10.0.0.N
 abbrev pub announcement_by : ℕ → List ℕ
@@ -51,4 +52,4 @@ abbrev pub tie : List FeedRecord
 tie = ready 1 1 ∷ ready 2 2 ∷ ready 3 3 ∷ heard_on 1 (announcement_by 1) ∷ heard_on 3 (announcement_by 3) ∷ drain_record ∷ []
 
 abbrev pub tie_output : List OutRecord
-tie_output = record { kind = OCTETS; connection = 2; body = announcement_by 1 } ∷ record { kind = 83; connection = 0; body = 0 ∷ 0 ∷ 0 ∷ 0 ∷ 0 ∷ 0 ∷ 0 ∷ 3 ∷ 0 ∷ 0 ∷ 0 ∷ 0 ∷ 0 ∷ 0 ∷ 0 ∷ 1 ∷ 0 ∷ 0 ∷ 0 ∷ 0 ∷ 0 ∷ 0 ∷ 0 ∷ 1 ∷ [] } ∷ []
+tie_output = record { kind = 66; connection = 2; body = announcement_by 1 } ∷ record { kind = 83; connection = 0; body = 0 ∷ 0 ∷ 0 ∷ 0 ∷ 0 ∷ 0 ∷ 0 ∷ 3 ∷ 0 ∷ 0 ∷ 0 ∷ 0 ∷ 0 ∷ 0 ∷ 0 ∷ 1 ∷ 0 ∷ 0 ∷ 0 ∷ 0 ∷ 0 ∷ 0 ∷ 0 ∷ 1 ∷ [] } ∷ []

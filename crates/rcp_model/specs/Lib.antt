@@ -12,11 +12,14 @@ pub mod Costs
 pub mod Graphs
 pub mod Decision
 pub mod Control
-pub mod Feed
+pub mod Rosters
 pub mod Sessions
+pub mod Telling
 pub mod Meaning
+pub mod WholeFeed
 pub mod Examples
-pub mod Plain
 pub mod Contests
 pub mod Cases
 pub mod SessionCases
+pub mod SessionFeeds
+pub mod FeedCases

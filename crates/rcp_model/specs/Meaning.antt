@@ -1,87 +1,194 @@
--- What a feed means: a fold over its records, which gives the events of the route control server and the records that are put out.
-use Rattle.std.specs.Prelude.{◌≡◌, ℕ, ◌+◌, ◌-◌, ◌^◌, Bool, false, not, ◌&&◌, ◌==◌, List, [], ◌∷◌, ◌++◌, length, map, filter, drop, min, Option, Some, None, nat_lt, if◌then◌else◌}
-use Rattle.std.specs.List.{list_all, list_any}
-use Rattle.std.specs.Int.{w16, w32, w64, to_be_bytes, from_be_bytes}
+-- What a feed means: a fold over its records, which gives the sessions of its connections, the events of the route control server
+-- and the records that are put out.
+use Rattle.std.specs.Prelude.{◌≡◌, ℕ, ◌+◌, ◌-◌, ◌^◌, ◌<◌, Bool, true, false, not, ◌&&◌, ◌==◌, List, [], ◌∷◌, ◌++◌, length, map, min, Option, Some, None, if◌then◌else◌}
+use Rattle.std.specs.List.{list_any, flat_map}
+use Rattle.std.specs.Int.{w32, w64, to_be_bytes, from_be_bytes}
 use Rattle.rcp_base.specs.IpPrefix.{IpPrefix}
-use Rattle.rcp_base.specs.declared.names.Member.{Member}
-use Rattle.rcp_model.specs.Maps.{get_at, include_all, same_prefix}
-use Rattle.rcp_model.specs.Messages.{FaultOf, message_size, type_field, notification_octets}
-use Rattle.rcp_model.specs.Attributes.{canonical_octets}
-use Rattle.rcp_model.specs.Updates.{Table, update_fault, update_octets, changes_of, Changes, replay}
+use Rattle.rcp_base.specs.declared.kinds.Kind.{Kind}
+use Rattle.rcp_base.specs.declared.kinds.Kind.TheVariants as kind
+use Rattle.rcp_base.specs.Feed.{FeedRecord, OutRecord, begins, is_time, moment_of}
+use Rattle.rcp_model.specs.Rosters.{RosterOf, slot_from}
+use Rattle.rcp_model.specs.Maps.{get_at, set_at, include_all, same_prefix}
+use Rattle.rcp_model.specs.LinkState.{same_number}
+use Rattle.rcp_model.specs.Updates.{Table, update_octets, replay}
 use Rattle.rcp_model.specs.Edges.{rising_edges}
-use Rattle.rcp_model.specs.Feed.{FeedRecord, RosterOf, READY, OCTETS, CLOSED, DRAIN, SUMMARY}
-use Rattle.rcp_model.specs.Control.{Domain, Server, ServerEvent, Up, Down, Change, Work, after_all, table_of, is_connected, announced_prefixes, same_octets, is_touched, offer}
+use Rattle.rcp_model.specs.Sessions.{Reason, Faulted, Received, Ended, SeatTaken, Ending, SessionEvent, Announce, Withdraw, Doing, Phase, OpenConfirm, Established, SessionState, Answer, Input, Octets, Seat, Moment, End, answer, begun, begun_established, is_closed, seat_taken, stepped, then_also}
+use Rattle.rcp_model.specs.Sessions as session
+use Rattle.rcp_model.specs.Control.{Domain, Server, ServerEvent, Up, Down, Change, Work, after_all, table_of, announced_prefixes, same_octets, is_touched, offer}
 
 -- ---- the state
 
--- a connection with a router: its session is established, for the router of a slot
-pub data Phase : Type 0 where
-  Established : ℕ → Phase
+-- The sessions of the connections that are open, by rising number
+abbrev pub Connections : Type 0
+Connections = List (ℕ × SessionState)
 
-pub record Connection : Type 0 where
-  pub number : ℕ
-  pub phase : Phase
-
-abbrev pub slot_in : Phase → ℕ
-slot_in (Established slot) = slot
-
--- The roster, the connections that are open by rising number, the number and the slot of each connection that was begun so
--- far, the server, and how many UPDATEs were put out.
+-- The roster, the connections, the latest moment in seconds, the server, and how many UPDATEs were put out.
 pub record Platform : Type 0 where
   pub roster : RosterOf
-  pub connections : List Connection
-  pub begun : List (ℕ × ℕ)
+  pub connections : Connections
+  pub moment : ℕ
   pub server : Server
   pub updates : ℕ
 
 abbrev pub domain_of : RosterOf → Domain
 domain_of roster = record { as_number = roster.as_number; members = roster.members }
 
--- nothing is connected, and the edges are the roster's
+-- no connection was begun, and the edges are the roster's
 abbrev pub fresh : RosterOf → Platform
 fresh roster = record {
   roster = roster;
   connections = [];
-  begun = [];
+  moment = 0;
   server = record { tables = []; announcements = []; touched = []; edges = rising_edges roster.links };
   updates = 0;
 }
 
--- the slot of a router among members, of which the first has this slot
-abbrev pub slot_from : ℕ → List Member → ℕ → Option ℕ
-slot_from slot [] router = None
-slot_from slot (member ∷ members) router = if member.router == router then Some slot else slot_from (slot + 1) members router
+-- ---- seats
 
--- the slot of a connection
-abbrev pub slot_on : List Connection → ℕ → Option ℕ
-slot_on [] number = None
-slot_on (connection ∷ connections) number = if connection.number == number then Some (slot_in connection.phase) else slot_on connections number
+-- A session holds the seat of its router from the claim to its end.
+abbrev pub seat_of : Phase → Option ℕ
+seat_of (OpenConfirm peering) = Some peering.slot
+seat_of (Established peering) = Some peering.slot
+seat_of phase = None
 
--- ---- the events of a record
+-- Its router is connected from Up to its end.
+abbrev pub slot_in : Phase → Option ℕ
+slot_in (Established peering) = Some peering.slot
+slot_in phase = None
 
--- what a faultless UPDATE of a slot does, in order
-abbrev pub update_events : ℕ → Changes → List ServerEvent
-update_events slot changes =
-    map (λ p. Change slot p None) changes.withdrawn
-    ++ map (λ p. Change slot p (Some (canonical_octets changes.attributes))) changes.announced
+abbrev pub is_slot : ℕ → Option ℕ → Bool
+is_slot slot None = false
+is_slot slot (Some other) = other == slot
 
--- the octets are one whole UPDATE, of any content
-unfoldable pub is_whole_update : List ℕ → Bool
-is_whole_update octets = (elim (message_size octets) [ None ↦ false | Some n ↦ n == length octets ]) && type_field octets == 2
+abbrev pub is_free : Connections → ℕ → Bool
+is_free connections slot = not (list_any (λ entry. is_slot slot (seat_of entry.1.phase)) connections)
 
-abbrev pub work_events : List IpPrefix → List ServerEvent
-work_events touched = map Work touched
+abbrev pub slot_of_session : Option SessionState → Option ℕ
+slot_of_session None = None
+slot_of_session (Some session) = slot_in session.phase
+
+-- the slot that is connected on the connection of a number
+abbrev pub slot_on : Connections → ℕ → Option ℕ
+slot_on connections number = slot_of_session (get_at same_number number connections)
+
+-- ---- a session's turn
+
+-- What the session of a connection does at a record: the seat that it holds meanwhile, and its answer to what came.
+pub record Turn : Type 0 where
+  pub number : ℕ
+  pub seat : Option ℕ
+  pub answer : Answer
+
+abbrev pub turn : ℕ → Option ℕ → Answer → Turn
+turn number seat answer = record { number = number; seat = seat; answer = answer }
+
+-- what comes to a session that claims no seat by it
+abbrev pub simple_turn : RosterOf → Input → ℕ × SessionState → Turn
+simple_turn roster input entry = turn entry.0 (seat_of entry.1.phase) (answer roster input entry.1)
+
+-- A seat that was claimed is given where no connection holds it, and the session goes on at once.
+abbrev pub claim_turn : Platform → ℕ → Option ℕ → Answer → Option ℕ → Turn
+claim_turn platform number seat first None = turn number seat first
+claim_turn platform number seat first (Some slot) =
+    let free = is_free platform.connections slot in
+    let second = answer platform.roster (Seat free platform.moment) first.after in
+    turn number (if free then Some slot else None) (record second { does = then_also first.does second.does })
+
+-- octets that come on a connection
+abbrev pub octets_turn : Platform → List ℕ → ℕ × SessionState → Turn
+octets_turn platform octets entry =
+    let first = answer platform.roster (Octets octets platform.moment) entry.1 in
+    claim_turn platform entry.0 (seat_of entry.1.phase) first first.does.claim
+
+-- the connection of a number, where it is open
+abbrev pub connection_at : Connections → ℕ → List (ℕ × SessionState)
+connection_at connections number = elim (get_at same_number number connections) [ None ↦ [] | Some found ↦ (number, found) ∷ [] ]
+
+-- A connection of an established router begins. Where its seat is taken it is closed at once.
+abbrev pub ready_turn : Platform → ℕ → Option ℕ → List Turn
+ready_turn platform number None = []
+ready_turn platform number (Some slot) =
+    if is_free platform.connections slot
+    then turn number (Some slot) (begun_established slot) ∷ []
+    else turn number None (stepped 0 [] seat_taken) ∷ []
+
+-- the router that the body of a record names
+abbrev pub slot_named : RosterOf → List ℕ → Option ℕ
+slot_named roster body = slot_from 0 roster.members (from_be_bytes w32 body)
+
+-- the turns of a record, of the platform as it is at its moment
+abbrev pub turns_of : Platform → ℕ → List ℕ → Kind → List Turn
+turns_of platform number body kind.Ready = ready_turn platform number (slot_named platform.roster body)
+turns_of platform number body kind.Raw = turn number None (begun platform.roster platform.moment) ∷ []
+turns_of platform number body kind.Octets = map (octets_turn platform body) (connection_at platform.connections number)
+turns_of platform number body kind.Closed = map (simple_turn platform.roster End) (connection_at platform.connections number)
+turns_of platform number body kind.Time = map (simple_turn platform.roster (Moment (moment_of body))) platform.connections
+turns_of platform number body kind = []
+
+-- ---- what a turn does to the server
+
+-- what a router says, as an event of its slot
+abbrev pub server_event : ℕ → SessionEvent → ServerEvent
+server_event slot session.Up = Up slot
+server_event slot (Announce p route) = Change slot p (Some route.attrs)
+server_event slot (Withdraw p) = Change slot p None
+
+-- A session that ends gives up its seat. Where its router wasn't connected that changes nothing.
+abbrev pub end_events : ℕ → Option Ending → List ServerEvent
+end_events slot None = []
+end_events slot (Some ending) = Down slot ∷ []
+
+abbrev pub seat_events : Option ℕ → Doing → List ServerEvent
+seat_events None does = []
+seat_events (Some slot) does = map (server_event slot) does.events ++ end_events slot does.closed
+
+abbrev pub turn_events : Turn → List ServerEvent
+turn_events turn = seat_events turn.seat turn.answer.does
+
+-- a session that is closed is no connection's
+abbrev pub if_open : SessionState → Option SessionState
+if_open session = if is_closed session.phase then None else Some session
+
+abbrev pub after_turn : Turn → Platform → Platform
+after_turn turn platform = record platform {
+  connections = set_at same_number turn.number (if_open turn.answer.after) platform.connections;
+  server = after_all (domain_of platform.roster) (turn_events turn) platform.server;
+}
+
+abbrev pub after_turns : List Turn → Platform → Platform
+after_turns [] platform = platform
+after_turns (turn ∷ turns) platform = after_turns turns (after_turn turn platform)
 
 -- ---- what is put out
 
-pub record OutRecord : Type 0 where
-  pub kind : ℕ
-  pub connection : ℕ
-  pub body : List ℕ
+-- the kinds of the records, by their letters
+abbrev pub MESSAGE : ℕ
+MESSAGE = 66
 
--- the octets of a record that is put out
-abbrev pub out_octets : OutRecord → List ℕ
-out_octets out = out.kind ∷ to_be_bytes w32 out.connection ++ to_be_bytes w32 (length out.body) ++ out.body
+abbrev pub CLOSED : ℕ
+CLOSED = 88
+
+abbrev pub SUMMARY : ℕ
+SUMMARY = 83
+
+abbrev pub messages_to : ℕ → List (List ℕ) → List OutRecord
+messages_to number messages = map (λ message. record { kind = MESSAGE; connection = number; body = message }) messages
+
+abbrev pub reason_number : Reason → ℕ
+reason_number Faulted = 1
+reason_number Received = 2
+reason_number Ended = 3
+reason_number SeatTaken = 4
+
+-- the end of a connection, with the code and subcode of the NOTIFICATION that was sent or received
+abbrev pub end_record : ℕ → Option Ending → List OutRecord
+end_record number None = []
+end_record number (Some ending) =
+    record { kind = CLOSED; connection = number; body = reason_number ending.reason ∷ ending.code ∷ ending.sub ∷ [] } ∷ []
+
+-- the messages of a turn, and then the end
+abbrev pub turn_output : Turn → List OutRecord
+turn_output turn = messages_to turn.number turn.answer.does.sent ++ end_record turn.number turn.answer.does.closed
 
 -- one UPDATE for a cell that changed: an announcement, or a withdrawal where it became empty
 abbrev pub cell_update : IpPrefix → Option (List ℕ) → List ℕ
@@ -100,15 +207,15 @@ changed_cells (p ∷ prefixes) before now =
     then changed_cells prefixes before now
     else cell_update p (cell_of now p) ∷ changed_cells prefixes before now
 
-abbrev pub messages_to : ℕ → List (List ℕ) → List OutRecord
-messages_to number messages = map (λ message. record { kind = OCTETS; connection = number; body = message }) messages
+-- what a slot is told, where there is one
+abbrev pub slot_cells : List IpPrefix → Server → Server → Option ℕ → List (List ℕ)
+slot_cells prefixes before now None = []
+slot_cells prefixes before now (Some slot) = changed_cells prefixes (table_of before slot) (table_of now slot)
 
 -- the UPDATEs to each connection, by rising number, for what changed at these prefixes
-abbrev pub drained : List IpPrefix → Server → Server → List Connection → List OutRecord
-drained prefixes before now [] = []
-drained prefixes before now (connection ∷ connections) =
-    messages_to connection.number (changed_cells prefixes (table_of before (slot_in connection.phase)) (table_of now (slot_in connection.phase)))
-    ++ drained prefixes before now connections
+abbrev pub drained : List IpPrefix → Server → Server → Connections → List OutRecord
+drained prefixes before now connections =
+    flat_map (λ entry. messages_to entry.0 (slot_cells prefixes before now (slot_in entry.1.phase))) connections
 
 -- the greatest count that eight octets hold
 abbrev pub counted : ℕ → List ℕ
@@ -122,63 +229,10 @@ summary server updates = record {
   body = counted (length server.tables) ++ counted (length (include_all (announced_prefixes server.announcements) [])) ++ counted updates;
 }
 
--- why a connection was closed: by a fault in what it sent
-abbrev pub BY_FAULT : ℕ
-BY_FAULT = 1
-
--- the end of a connection, with the code and subcode that a NOTIFICATION named
-abbrev pub ended : ℕ → ℕ → ℕ → ℕ → OutRecord
-ended number reason code sub = record { kind = CLOSED; connection = number; body = reason ∷ code ∷ sub ∷ [] }
-
 -- ---- the step
 
-abbrev pub was_begun : List (ℕ × ℕ) → ℕ → Bool
-was_begun begun number = list_any (λ entry. entry.0 == number) begun
-
--- A connection number above each earlier one, and not 0.
-abbrev pub is_new_number : List (ℕ × ℕ) → ℕ → Bool
-is_new_number begun number = nat_lt 0 number && list_all (λ entry. nat_lt entry.0 number) begun
-
--- The router of a slot that isn't connected connects.
-abbrev pub seated : Platform → ℕ → Option ℕ → Platform
-seated platform number None = platform
-seated platform number (Some slot) =
-    if is_new_number platform.begun number && not (is_connected platform.server slot)
-    then record platform {
-      connections = platform.connections ++ record { number = number; phase = Established slot } ∷ [];
-      begun = platform.begun ++ (number, slot) ∷ [];
-      server = after_all (domain_of platform.roster) (Up slot ∷ []) platform.server;
-    }
-    else platform
-
--- the connection of a slot is closed
-abbrev pub closed : Platform → ℕ → Platform
-closed platform slot = record platform {
-  connections = filter (λ connection. not (slot_in connection.phase == slot)) platform.connections;
-  server = after_all (domain_of platform.roster) (Down slot ∷ []) platform.server;
-}
-
--- The body of an UPDATE comes from a slot: it counts where it has no fault, and else its first fault ends the session.
-abbrev pub updated : Platform → ℕ → List ℕ → Option FaultOf → Platform
-updated platform slot body None =
-    record platform { server = after_all (domain_of platform.roster) (update_events slot (changes_of body)) platform.server }
-updated platform slot body (Some why) = closed platform slot
-
-abbrev pub heard : Platform → List ℕ → Option ℕ → Platform
-heard platform octets None = platform
-heard platform octets (Some slot) =
-    if is_whole_update octets
-    then updated platform slot (drop 19 octets) (update_fault w16 (drop 19 octets))
-    else platform
-
--- the NOTIFICATION of a fault and the end of the connection
-abbrev pub fault_output : ℕ → Option FaultOf → List OutRecord
-fault_output number None = []
-fault_output number (Some why) = messages_to number (notification_octets why ∷ []) ++ ended number BY_FAULT why.code why.sub ∷ []
-
-abbrev pub heard_output : ℕ → List ℕ → Option ℕ → List OutRecord
-heard_output number octets None = []
-heard_output number octets (Some slot) = if is_whole_update octets then fault_output number (update_fault w16 (drop 19 octets)) else []
+abbrev pub work_events : List IpPrefix → List ServerEvent
+work_events touched = map Work touched
 
 -- every touched prefix is worked
 abbrev pub drained_server : Platform → Server
@@ -191,17 +245,26 @@ drain_messages platform = drained platform.server.touched platform.server (drain
 abbrev pub drain : Platform → Platform
 drain platform = record platform { server = drained_server platform; updates = min (platform.updates + length (drain_messages platform)) (2 ^ 64 - 1) }
 
+abbrev pub drain_output : Platform → List OutRecord
+drain_output platform = drain_messages platform ++ summary (drained_server platform) (drain platform).updates ∷ []
+
+-- the platform at the moment of a record
+abbrev pub noted : FeedRecord → Platform → Platform
+noted item platform = record platform { moment = if is_time item.kind then moment_of item.body else platform.moment }
+
+abbrev pub record_turns : Platform → FeedRecord → List Turn
+record_turns platform item = turns_of platform item.source item.body item.kind
+
+abbrev pub is_drain : Kind → Bool
+is_drain kind.Drain = true
+is_drain kind = false
+
 -- The platform after a record, and what is put out for it. A record that says nothing here changes nothing.
 unfoldable pub step : Platform → FeedRecord → Platform
-step platform item =
-    if item.kind == READY then seated platform item.source (slot_from 0 platform.roster.members (from_be_bytes w32 item.body)) else (
-    if item.kind == OCTETS then heard platform item.body (slot_on platform.connections item.source) else (
-    if item.kind == DRAIN then drain platform else platform))
+step platform item = if is_drain item.kind then drain platform else after_turns (record_turns platform item) (noted item platform)
 
 unfoldable pub output : Platform → FeedRecord → List OutRecord
-output platform item =
-    if item.kind == OCTETS then heard_output item.source item.body (slot_on platform.connections item.source) else (
-    if item.kind == DRAIN then drain_messages platform ++ summary (drained_server platform) (drain platform).updates ∷ [] else [])
+output platform item = if is_drain item.kind then drain_output platform else flat_map turn_output (record_turns platform item)
 
 -- ---- runs
 
@@ -217,7 +280,13 @@ all_output platform (item ∷ items) = output platform item ++ all_output (step 
 -- the octets sent to a connection: the messages put out for it, in order
 abbrev pub sent_to : ℕ → List OutRecord → List ℕ
 sent_to number [] = []
-sent_to number (out ∷ outs) = if out.kind == OCTETS && out.connection == number then out.body ++ sent_to number outs else sent_to number outs
+sent_to number (out ∷ outs) = if out.kind == MESSAGE && out.connection == number then out.body ++ sent_to number outs else sent_to number outs
+
+-- each connection's number is above those before, of which the greatest is this one
+abbrev pub NumbersRise : ℕ → List FeedRecord → Type 0
+NumbersRise last [] = Unit {0}
+NumbersRise last (item ∷ items) =
+    (begins item.kind ≡ true → last < item.source) × NumbersRise (if begins item.kind then item.source else last) items
 
 -- THE HEADLINE, for one run from its beginning: where the router of a slot is connected, and a prefix isn't pending, the octets
 -- sent to it, replayed, give for the prefix exactly what the slot is offered.

@@ -8,7 +8,7 @@ use Rattle.rcp_model.specs.Messages.{FaultOf, fault, header_fault, type_field, m
 use Rattle.rcp_model.specs.Opens.{open_fields, open_fault, open_octets}
 use Rattle.rcp_model.specs.Routes.{RouteFields, route_of}
 use Rattle.rcp_model.specs.Updates.{Changes, update_fault, changes_of}
-use Rattle.rcp_model.specs.Feed.{RosterOf}
+use Rattle.rcp_model.specs.Rosters.{RosterOf}
 
 -- ---- the states (section 8.2.2). Moments are in seconds.
 
@@ -159,7 +159,7 @@ opening_fault roster body = open_fault (is_known roster) roster.as_number body
 abbrev pub negotiated : RosterOf → List ℕ → Negotiated
 negotiated roster body = record { hold = min roster.hold (open_fields body).hold }
 
--- An OPEN claims the seat of its router.
+-- An OPEN claims the seat of its router, which the roster knows where the OPEN has no fault.
 abbrev pub claimed : ℕ → Negotiated → Option ℕ → Step
 claimed since terms slot = step (Claiming since (unwrap_or slot 0) terms) (record nothing { claim = slot })
 

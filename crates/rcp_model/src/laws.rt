@@ -2,6 +2,7 @@
 
 pub mod candidates;
 pub mod canonical_form;
+pub mod feeds;
 pub mod filters;
 pub mod instances;
 pub mod offers;

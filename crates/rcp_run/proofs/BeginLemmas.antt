@@ -1,94 +1,136 @@
 -- The first record, and what a whole feed then comes to.
-use Rattle.std.proofs.Common.{◌≡◌, ℕ, ◌+◌, true, false, eqb, List, ◌∷◌, ◌++◌, drop, Option, Some, None, refl, sym, ap, ◌∙◌, inl, inr, arith}
+use Rattle.std.proofs.Common.{◌≡◌, ℕ, true, false, not, ◌&&◌, ◌||◌, ltb, List, [], ◌∷◌, ◌++◌, length, Option, Some, None, Ok, Err, refl, sym, ap, ◌∙◌}
+use Rattle.std.proofs.lemmas.Bool.{not-false}
 use Rattle.outside.specs.Told.{in_front, behind-nil}
-use Rattle.rcp_model.specs.Feed.{FeedRecord, RosterOf, FitsFrame, ROSTER, record_octets, records_in, roster_of}
-use Rattle.rcp_model.specs.Meaning.{fresh}
-use Rattle.rcp_model.specs.Plain as plain
-use Rattle.rcp_model.specs.Plain.{is_plausible, record_length, formed, octets_through, first_roster, meaning_of_records, no_feed, feed_meaning, whole_output}
-use Rattle.rcp_model.proofs.RecordLemmas.{records_in-front, implausible-roster}
-use Rattle.rcp_run.specs.declared.status.Status.{Status}
-use Rattle.rcp_run.specs.declared.status.Status.TheVariants.{Done, Usage, Feed, Read, Write, NoMemory}
-use Rattle.rcp_run.specs.declared.status.FeedWhy.TheVariants.{TooLong, BadBody}
-use Rattle.rcp_run.specs.Answers.{EndsSo, WroteSo, Answers, AnswersFrom}
-use Rattle.rcp_run.specs.Records.{IsUnread, RefusesNext}
-use Rattle.rcp_run.proofs.NextLemmas.{told_front}
-use Rattle.rcp_run.proofs.TurnLemmas.{wrote_nothing, drop_past, length-record}
+use Rattle.rcp_base.specs.declared.kinds.Kind.{Kind}
+use Rattle.rcp_base.specs.declared.kinds.Kind.TheVariants as kind
+use Rattle.rcp_base.specs.declared.kinds.FeedWhy.{FeedWhy}
+use Rattle.rcp_base.specs.declared.kinds.FeedWhy.TheVariants as why
+use Rattle.rcp_base.specs.declared.kinds.RosterWhy.{RosterWhy}
+use Rattle.rcp_base.specs.Feed.{FeedState, FeedRecord, Feed, IsRecord, is_roster, is_finish, has_length, record_octets, fault_of, fault_in_front, before_feeds, after, with_first, feed_of}
+use Rattle.rcp_model.specs.Rosters.{RosterOf, roster_in}
+use Rattle.rcp_model.specs.Meaning.{Platform, fresh}
+use Rattle.rcp_model.specs.WholeFeed.{FeedMeaning, with_roster, meaning_of, feed_meaning, whole_output}
+use Rattle.feed_format.specs.Reading.{Refuses, TakesLess}
+use Rattle.feed_format.specs.declared.reader.FeedRefusal.{FeedRefusal}
+use Rattle.feed_format.specs.declared.reader.FeedRefusal.TheVariants as refusal
+use Rattle.feed_format.specs.declared.status.Status.{Status}
+use Rattle.feed_format.specs.declared.status.Status.TheVariants as status
+use Rattle.feed_format.proofs.FrontLemmas.{passes_first}
+use Rattle.feed_format.proofs.AgainLemmas.{lawful_parts}
+use Rattle.rcp_run.specs.Answers.{status_of, StopsFor, StopsFrom, Answers, AnswersFrom, GoesWith, output_for, output_from}
+use Rattle.rcp_run.proofs.FeedLemmas.{no_front, feed-fault, feed-short, again-more, told_front}
+use Rattle.rcp_run.proofs.WrittenLemmas.{wrote_nothing, wrote_none, wrote_after}
 
--- ---- there is no roster in front
+-- ---- no record was given
 
-abbrev HasNone : List ℕ → Type 0
-HasNone octets = feed_meaning octets ≡ no_feed
-
-none-ends : (octets : List ℕ) (left taken : Option (List ℕ)) → HasNone octets → Answers (Feed 1 BadBody) octets left taken taken
-none-ends octets left taken none = record {
-  ended = ap (λ (f : plain.FeedMeaning). f.end) none;
-  through = λ is. absurd (unfinished is);
-  written = rw none (sym (behind-nil taken));
-} where
-  unfinished : Feed 1 BadBody ≡ Done → ⊥
-  unfinished e = cc
-
-quiet-ends : (status : Status) (octets : List ℕ) (left taken : Option (List ℕ)) → EndsSo status (feed_meaning octets).end → (status ≡ Done → ⊥) → WroteSo status taken taken (whole_output (feed_meaning octets)) → Answers status octets left taken taken
-quiet-ends status octets left taken ended unfinished written = record { ended = ended; through = λ is. absurd (unfinished is); written = written }
-
-unread-none : (octets : List ℕ) → IsUnread octets → HasNone octets
+meaning-none : (octets : List ℕ) → (feed_of before_feeds octets).items ≡ [] → whole_output (feed_meaning octets) ≡ []
 unfolding feed_meaning
-unread-none octets (inl none) = rw none refl
-unread-none octets (inr (item, items, is, isnt)) = rw (is, implausible-roster item isnt) refl
+meaning-none octets none = rw none refl
 
-pub first-refused : (status : Status) (number past a b : ℕ) (octets : List ℕ) (left now taken : Option (List ℕ)) → number ≡ 1 → past ≡ 0 → RefusesNext status number past left a b → left ≡ Some octets → Answers status octets now taken taken
-first-refused Done number past a b octets left now taken one zero h told = absurd h
-first-refused Usage number past a b octets left now taken one zero h told = absurd h
-first-refused Write number past a b octets left now taken one zero h told = absurd h
-first-refused (Feed at TooLong) number past a b octets left now taken one zero h told = absurd (omega (arith, h.1, zero))
-first-refused (Feed at BadBody) number past a b octets left now taken one zero h told =
-    let first : at ≡ 1 = h.0 ∙ one in
-    rw first (none-ends octets now taken (unread-none octets (h.2 octets told)))
-first-refused Read number past a b octets left now taken one zero h told = quiet-ends Read octets now taken tt (λ is. cc) (wrote_nothing taken _)
-first-refused NoMemory number past a b octets left now taken one zero h told = quiet-ends NoMemory octets now taken tt (λ is. cc) (wrote_nothing taken _)
+meaning-fault : (octets : List ℕ) (fault : FeedWhy) → fault_in_front before_feeds octets ≡ Some fault → feed_meaning octets ≡ meaning_of 1 (record { items = []; state = before_feeds; fault = Some fault; left = octets }) []
+unfolding feed_meaning
+meaning-fault octets fault e = ap (λ (f : Feed). meaning_of 1 f f.items) (feed-fault before_feeds octets fault (no_front before_feeds octets fault e))
 
--- ---- a record is in front
+pub first-refused : (refused : FeedRefusal) (octets : List ℕ) (now taken : Option (List ℕ)) → Refuses before_feeds octets refused → (refused ≡ refusal.Read → TakesLess (Some octets) now)
+    → Answers (status_of refused) octets now taken taken
+first-refused (refusal.Feed number why) octets now taken h less =
+    let meaning_is = meaning-fault octets why h.1 in
+    record {
+      ended = rw (meaning_is, h.0) refl;
+      through = λ is. absurd cc;
+      written = wrote_none taken _ (ap whole_output meaning_is);
+    }
+first-refused refusal.Read octets now taken h less =
+    let part = less refl in
+    let front = told_front part.taken octets now part.given in
+    record {
+      ended = tt;
+      through = λ is. absurd cc;
+      written = record {
+        taken = part.taken;
+        rest = front.0;
+        parts = front.2;
+        left = front.1;
+        wrote = wrote_none taken _ (meaning-none part.taken (feed-short before_feeds part.taken part.within));
+      };
+    }
+first-refused refusal.NoMemory octets now taken h less = record { ended = tt; through = λ is. absurd cc; written = wrote_nothing taken _ }
 
-module _ (octets : List ℕ) (item : FeedRecord) (left now : Option (List ℕ)) (read : left ≡ in_front (record_octets item) now) (told : left ≡ Some octets) (fits : FitsFrame item) where
+-- ---- a record was given
+
+no_finish : (k : Kind) → is_roster k ≡ true → is_finish k ≡ false
+no_finish kind.Roster e = refl
+no_finish kind.Ready e = absurd cc
+no_finish kind.Raw e = absurd cc
+no_finish kind.Octets e = absurd cc
+no_finish kind.Closed e = absurd cc
+no_finish kind.Links e = absurd cc
+no_finish kind.Time e = absurd cc
+no_finish kind.Slice e = absurd cc
+no_finish kind.Drain e = absurd cc
+no_finish kind.Finish e = absurd cc
+
+-- the first record is a roster
+starts : (item : FeedRecord) → fault_of before_feeds item ≡ None → is_finish item.kind ≡ false
+starts item lawful =
+    no_finish item.kind (not-false (is_roster item.kind) (passes_first (not (is_roster item.kind)) why.NoRoster
+    ((before_feeds.started && is_roster item.kind, why.Twice) ∷ (ltb 65536 (length item.body) || not (has_length item.kind (length item.body)), why.Length) ∷ []) (lawful_parts before_feeds item lawful).header).0)
+
+module _ (octets : List ℕ) (item : FeedRecord) (left now : Option (List ℕ)) (told : left ≡ Some octets) (given : left ≡ in_front (record_octets item) now)
+    (form : IsRecord item) (lawful : fault_of before_feeds item ≡ None) where
   front : (rest : List ℕ) × (now ≡ Some rest) × (octets ≡ record_octets item ++ rest)
-  front = told_front (record_octets item) octets now (sym told ∙ read)
+  front = told_front (record_octets item) octets now (sym told ∙ given)
 
-  first : records_in octets ≡ item ∷ records_in front.0
-  first = ap records_in front.2 ∙ records_in-front item front.0 fits
-
-  has_none : first_roster item ≡ None → HasNone octets
+  meaning-more : (more : List ℕ) → feed_meaning (record_octets item ++ more)
+      ≡ with_roster (with_first item (feed_of (after before_feeds item) more)) 1 (feed_of (after before_feeds item) more).items (roster_in item.body)
   unfolding feed_meaning
-  has_none none = rw (first, none) refl
+  meaning-more more = ap (λ (f : Feed). meaning_of 1 f f.items) (again-more before_feeds item form lawful more (starts item lawful))
 
-  pub no_roster-ends : (taken : Option (List ℕ)) (at : ℕ) → at ≡ 1 → first_roster item ≡ None → Answers (Feed at BadBody) octets now taken taken
-  no_roster-ends taken at one none = rw one (none-ends octets now taken (has_none none))
+  pub faulty_roster-ends : (line : ℕ) (why : RosterWhy) (taken : Option (List ℕ)) → roster_in item.body ≡ Err (record { line = line; why = why }) → Answers (status.Roster 1 line why) octets now taken taken
+  faulty_roster-ends line why taken faulty =
+      let meaning_is = ap feed_meaning front.2 ∙ meaning-more front.0
+      ∙ ap (with_roster (with_first item (feed_of (after before_feeds item) front.0)) 1 (feed_of (after before_feeds item) front.0).items) faulty in
+      record {
+        ended = rw meaning_is refl;
+        through = λ is. absurd cc;
+        written = wrote_none taken _ (ap whole_output meaning_is);
+      }
 
-  pub no_memory-ends : (taken : Option (List ℕ)) → Answers NoMemory octets now taken taken
-  no_memory-ends taken = quiet-ends NoMemory octets now taken tt (λ is. cc) (wrote_nothing taken _)
+  module _ (roster : RosterOf) (is_read : roster_in item.body ≡ Ok roster) where
+    meaning-read : (more : List ℕ) → feed_meaning (record_octets item ++ more)
+        ≡ with_roster (with_first item (feed_of (after before_feeds item) more)) 1 (feed_of (after before_feeds item) more).items (Ok roster)
+    meaning-read more = meaning-more more ∙ ap (with_roster (with_first item (feed_of (after before_feeds item) more)) 1 (feed_of (after before_feeds item) more).items) is_read
 
-  begun : (roster : RosterOf) → first_roster item ≡ Some roster → feed_meaning octets ≡ plain.after_roster item (records_in front.0) (Some roster)
-  unfolding feed_meaning
-  begun roster is = rw (first, is) refl
+    stops-more : (more written : List ℕ) → StopsFrom (fresh roster) (after before_feeds item) more written → StopsFor (record_octets item ++ more) ([] ++ written)
+    stops-more more written h = rw (meaning-read more) (record {
+      roster = roster;
+      given = refl;
+      before = h.before;
+      last = h.last;
+      items = h.parts;
+      part = h.part;
+      more = h.more;
+      wrote = h.wrote;
+      missing = h.missing;
+      less = h.less;
+    })
 
-  pub begins : (roster : RosterOf) → first_roster item ≡ Some roster
-      → (rest : List ℕ) × (now ≡ Some rest) × ((status : Status) (left' before now' : Option (List ℕ)) → AnswersFrom (fresh roster) 2 (record_length item) status rest left' before now' → Answers status octets left' before now')
-  begins roster is = (
-    front.0,
-    front.1,
-    λ status left' before now' h.
-        record {
-          ended = rw (begun roster is) h.ended;
-          through = λ done. h.through done ∙ ap Some (rw (begun roster is) (later _));
-          written = rw (begun roster is) h.written;
-        },
-  )
-    where
-      later : (n : ℕ) → drop n front.0 ≡ drop (record_length item + n) octets
-      later n = sym (drop_past (record_octets item) front.0 n) ∙ ap (λ (m : ℕ). drop (m + n) (record_octets item ++ front.0)) (length-record item) ∙ ap (drop (record_length item + n)) (sym front.2)
+    pub begins : (rest : List ℕ) × (now ≡ Some rest) × ((answer : Status) (later before final : Option (List ℕ)) → AnswersFrom (fresh roster) (after before_feeds item) answer rest later before final → Answers answer octets later before final)
+    begins = (
+      front.0,
+      front.1,
+      λ answer later before final h.
+          let meaning_is = ap feed_meaning front.2 ∙ meaning-read front.0 in
+          record {
+            ended = rw meaning_is h.ended;
+            through = λ is. h.through is ∙ ap (λ (m : FeedMeaning). Some m.left) (sym meaning_is);
+            written = wrote_after output_for (output_from (fresh roster) (after before_feeds item)) StopsFor (StopsFrom (fresh roster) (after before_feeds item))
+                (record_octets item) [] (λ more. ap whole_output (meaning-read more)) stops-more octets front.0 front.2 before before (sym (behind-nil before)) answer later final h.written;
+          },
+    )
 
--- the roster of a first record
-pub first-is : (item : FeedRecord) (found : Option RosterOf) → is_plausible item ≡ true → eqb item.kind ROSTER ≡ true → roster_of item.body ≡ found → first_roster item ≡ found
-first-is item found ok kind is = rw (ok, kind) is
-
-pub first-other : (item : FeedRecord) → is_plausible item ≡ true → eqb item.kind ROSTER ≡ false → first_roster item ≡ None
-first-other item ok kind = rw (ok, kind) refl
+pub goes_with_first : (roster : RosterOf) (platform : Platform) (state next : FeedState) (item : FeedRecord) → fault_of state item ≡ None → state ≡ before_feeds
+    → platform ≡ fresh roster → next ≡ after state item → GoesWith platform next
+goes_with_first roster platform state next item lawful first begun noted =
+    rw (begun, noted) (record { going = starts item (rw first at lawful); numbers = tt })

@@ -1,11 +1,10 @@
 -- The decision on lists: candidates one after the other, the nearest of those passed, and the offer.
-use Rattle.std.proofs.Common.{◌≡◌, ℕ, zero, suc, ◌+◌, ◌<◌, ◌≤◌, Bool, true, false, cond, ltb, List, [], ◌∷◌, ◌++◌, length, get_or, take, drop, Bor, Option, Some, None, option_map, IfSome, MatchOption, slice_get, refl, sym, ap, subst, ◌∙◌, arith, add-one, append_assoc, append-nil, eq-eqb, ne_eqb}
+use Rattle.std.proofs.Common.{◌≡◌, ℕ, zero, suc, ◌+◌, ◌<◌, ◌≤◌, Bool, cond, List, [], ◌∷◌, ◌++◌, length, get_or, take, drop, Bor, Option, Some, None, option_map, IfSome, MatchOption, slice_get, refl, sym, ap, subst, ◌∙◌, arith, add-one, append_assoc, append-nil, eq-eqb, ne_eqb}
 use Rattle.std.proofs.Math.Path.{fun_ext}
 use Rattle.std.specs.List.{list_any, AllByRecursion}
 use Rattle.std.proofs.Math.Seq.{drop-cons}
 use Rattle.std.proofs.Math.ListN.{drop_of_length-le}
 use Rattle.std.proofs.lemmas.List.{take_more, take_all}
-use Rattle.std.proofs.lemmas.Bool.{ltb-true, ltb-false}
 use Rattle.rcp_base.specs.IpPrefix.{IpPrefix}
 use Rattle.rcp_base.specs.declared.names.Member.{Member}
 use Rattle.rcp_model.specs.declared.event.Edge.{Edge}
@@ -31,7 +30,7 @@ pub usable_contender : (domain : Domain) (xs : List Announcement) (slot : ℕ) (
     → cond usable (Some (contender slot id e.route)) None ≡ announcement_contender domain slot id (announced_by (announcements_in xs) slot p) n
 usable_contender domain xs slot p id n k e kept found cost usable is =
     rw (announced-entry xs slot p, ← found, ← cost, is)
-    (ap (λ (r : RouteFields). cond (is_usable r) (Some (contender slot id r)) None) (entry_has (IsKept domain.as_number) xs slot p e kept (sym found)).0)
+    (ap (λ (r : RouteFields). cond (is_usable r) (Some (contender slot id r)) None) (entry_has (IsKept domain.as_number) xs slot p e kept (sym found)).fields)
 
 -- ---- the candidates of the members that were passed, and those of the others
 
@@ -124,7 +123,7 @@ kept-canonical as_number xs p kept slot octets is = by_entry (entry_at xs slot p
   by_entry (Some e) some =
       let same : Some e.route.attrs ≡ Some octets = ap (option_map (λ (x : Announcement). x.route.attrs)) (sym some) ∙ sym (announced-entry xs slot p) ∙ is in
       let octets_are : e.route.attrs ≡ octets = cc in
-      subst (λ (l : List ℕ). canonical_octets (attributes_in l) ≡ l) octets_are (entry_has (IsKept as_number) xs slot p e kept some).1
+      subst (λ (l : List ℕ). canonical_octets (attributes_in l) ≡ l) octets_are (entry_has (IsKept as_number) xs slot p e kept some).canonical
 
 pub offered_short : (domain : Domain) (xs : List Announcement) (edges : List Edge) (slot : ℕ) (p : IpPrefix) (octets : List ℕ) → AllByRecursion (IsKept domain.as_number) xs
     → Some octets ≡ offer domain (announcements_in xs) edges slot p → length octets ≤ 4068
@@ -137,13 +136,19 @@ router-past [] slot past = refl
 router-past (m ∷ members) zero past = absurd (omega arith)
 router-past (m ∷ members) (suc slot) past = router-past members slot (omega arith)
 
-pub cost_none : (members : List Member) (reached : List Reached) (slot k : ℕ) → k ≡ slot → false ≡ ltb k (length members) → None ≡ costs_in members reached slot
-cost_none members reached slot k is past =
-    rw (← is, router-past members k (ltb-false k (length members) (sym past))) refl
+pub got : {X : Type 0} (xs : List X) (i : ℕ) (x : X) → slice_get xs i ≡ Some x → (i < length xs) × (x ≡ get_or xs i x)
+got [] i x is = absurd cc
+got (y ∷ xs) zero x is = let here : y ≡ x = cc in (omega arith, sym here)
+got (y ∷ xs) (suc i) x is = let more = got xs i x is in (omega (arith, more.0), more.1)
 
-pub cost_some : (members : List Member) (reached : List Reached) (slot k : ℕ) (m : Member) → k ≡ slot → true ≡ ltb k (length members) → m ≡ get_or members k m → cost_in reached m.router ≡ costs_in members reached slot
-cost_some members reached slot k m is within m_is =
-    rw (← is, router-at members k m (ltb-true k (length members) (sym within))) (ap (λ (x : Member). cost_in reached x.router) m_is)
+pub router_got : (members : List Member) (slot : ℕ) (m : Member) → slice_get members slot ≡ Some m → router_at members slot ≡ Some m.router
+router_got members slot m is = router-get members slot ∙ ap (option_map (λ (x : Member). x.router)) is
+
+pub cost_none : (members : List Member) (reached : List Reached) (slot : ℕ) → length members ≤ slot → None ≡ costs_in members reached slot
+cost_none members reached slot past = rw (router-past members slot past) refl
+
+pub cost_some : (members : List Member) (reached : List Reached) (slot : ℕ) (m : Member) → slice_get members slot ≡ Some m → cost_in reached m.router ≡ costs_in members reached slot
+cost_some members reached slot m is = rw (router_got members slot m is) refl
 
 pub short_if : (domain : Domain) (xs : List Announcement) (edges : List Edge) (slot : ℕ) (p : IpPrefix) (found : Option (Bor (List ℕ))) → AllByRecursion (IsKept domain.as_number) xs
     → option_map (λ (octets : Bor (List ℕ)). octets.now) found ≡ offer domain (announcements_in xs) edges slot p → IfSome found (λ octets. length octets.now ≤ 4068)

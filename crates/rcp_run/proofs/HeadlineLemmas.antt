@@ -1,65 +1,108 @@
--- The records that are read of octets have octets in their bodies, so the headline holds of them.
-use Rattle.std.proofs.Common.{ℕ, zero, suc, ◌+◌, ◌<◌, leb, ◌&&◌, length, List, [], ◌∷◌, take, map, Option, Some, None, inl, inr, arith}
-use Rattle.std.specs.List.{All, AllByRecursion}
-use Rattle.std.proofs.lemmas.Bool.{cases_Bool, and_parts, leb-true}
-use Rattle.std.proofs.lemmas.Option.{cond_some}
-use Rattle.std.proofs.lemmas.List.Elements.{All-drop}
-use Rattle.rcp_model.specs.Cut.{cut}
-use Rattle.rcp_model.specs.Feed.{FeedRecord, RosterOf, body_length, record_size, record_of, records_in}
-use Rattle.rcp_model.specs.Meaning.{Platform, fresh, step}
-use Rattle.rcp_model.specs.Plain.{has_form, is_end, record_length, most_octets, formed, first_roster, after_roster, meaning_of_records, feed_meaning, HeadlineWritten}
-use Rattle.rcp_model.proofs.CutLemmas.{IsSize, cut-All}
+-- The records of a feed of octets have octets in their bodies, and the numbers of their connections rise, so the headline
+-- holds of them.
+use Rattle.std.proofs.Common.{◌≡◌, ℕ, zero, suc, ◌+◌, ◌<◌, ◌≤◌, true, List, [], ◌∷◌, length, take, drop, is_some, Result, Ok, Err, sym, subst, inl, inr, arith, if◌then◌else◌, All}
+use Rattle.std.specs.List.{AllByRecursion}
+use Rattle.std.proofs.lemmas.Bool.{cases_Bool}
+use Rattle.std.proofs.lemmas.List.Elements.{All-drop, All-take}
+use Rattle.rcp_base.specs.Feed.{FeedState, FeedRecord, Feed, begins, is_finish, length_at, frame_size, before_feeds, after, front, feed_within, feed_of}
+use Rattle.rcp_base.specs.Roster.{FaultyLine}
+use Rattle.rcp_model.specs.Rosters.{RosterOf, roster_in}
+use Rattle.rcp_model.specs.Meaning.{NumbersRise}
+use Rattle.rcp_model.specs.Telling.{AreOctets}
+use Rattle.rcp_model.specs.WholeFeed.{unread_fault, read_of, with_roster, meaning_of, feed_meaning, HeadlineWritten}
+use Rattle.rcp_run.proofs.FeedLemmas.{StandsInFront, stands, cases_front, within-last, within-more, within-fault, new_number}
 use Rattle.rcp_model.proofs.CodecLemmas.{headline}
 
-abbrev HasOctets : FeedRecord → Type 0
-HasOctets item = All (λ o. o < 256) item.body
+-- ---- what the headline asks of records
 
-each_body : (pieces : List (List ℕ)) → AllByRecursion (All (λ o. o < 256)) pieces → AllByRecursion HasOctets (map record_of pieces)
-each_body [] h = tt
-each_body (piece ∷ pieces) h = (All-drop (λ o. o < 256) 9 piece h.0, each_body pieces h.1)
+abbrev HaveOctets : List FeedRecord → Type 0
+HaveOctets items = AllByRecursion (λ item. All (λ o. o < 256) item.body) items
 
-size : IsSize record_size
-unfolding record_size
-size = record {
-  positive = λ octets n e. let found = cond_some (leb 9 (length octets) && leb (9 + body_length octets) (length octets)) (9 + body_length octets) n e in omega (arith, found.1);
-  within = λ octets n e. let found = cond_some (leb 9 (length octets) && leb (9 + body_length octets) (length octets)) (9 + body_length octets) n e in
-      omega (arith, found.1, leb-true (9 + body_length octets) (length octets) (and_parts (leb 9 (length octets)) (leb (9 + body_length octets) (length octets)) found.0).1);
-}
+record AreNumbered (last : ℕ) (items : List FeedRecord) : Type 0 where
+  pub bodies : HaveOctets items
+  pub numbers : NumbersRise last items
 
-bodies : (octets : List ℕ) → All (λ o. o < 256) octets → AllByRecursion HasOctets (records_in octets)
-bodies octets all = each_body (cut record_size octets).0 (cut-All record_size size (λ o. o < 256) octets all)
+none_numbered : (last : ℕ) → AreNumbered last []
+none_numbered last = record { bodies = tt; numbers = tt }
 
-formed_bodies : (platform : Platform) (past : ℕ) (items : List FeedRecord) → AllByRecursion HasOctets items → AllByRecursion HasOctets (formed platform past items)
-unfolding formed
-formed_bodies platform past [] h = tt
-formed_bodies platform past (item ∷ items) h =
-    elim (cases_Bool (leb most_octets past)) [
-      | inl e ↦ rw e tt
-      | inr e ↦ rw e (
-          elim (cases_Bool (is_end item)) [
-            | inl f ↦ rw f tt
-            | inr f ↦ rw f (
-                elim (cases_Bool (has_form platform item)) [
-                  | inl i ↦ rw i (h.0, formed_bodies (step platform item) (past + record_length item) items h.1)
-                  | inr i ↦ rw i tt
-                ])
-          ])
+more_numbered : (last : ℕ) (item : FeedRecord) (items : List FeedRecord) → All (λ o. o < 256) item.body → (begins item.kind ≡ true → last < item.source)
+    → AreNumbered (if begins item.kind then item.source else last) items → AreNumbered last (item ∷ items)
+more_numbered last item items body new rest = record { bodies = (body, rest.bodies); numbers = (new, rest.numbers) }
+
+-- ---- the records of octets
+
+body_octets : (state : FeedState) (octets : List ℕ) (item : FeedRecord) (rest : List ℕ) → StandsInFront state octets item rest → AreOctets octets → All (λ o. o < 256) item.body
+body_octets state octets item rest h all =
+    subst (λ (i : FeedRecord). All (λ o. o < 256) i.body) h.item_is (All-take (λ o. o < 256) (length_at octets) (drop 9 octets) (All-drop (λ o. o < 256) 9 octets all))
+
+rest_octets : (state : FeedState) (octets : List ℕ) (item : FeedRecord) (rest : List ℕ) → StandsInFront state octets item rest → AreOctets octets → AreOctets rest
+rest_octets state octets item rest h all = subst AreOctets h.rest_is (All-drop (λ o. o < 256) (frame_size octets) octets all)
+
+none_within : (state : FeedState) (octets : List ℕ) → AreNumbered state.last (feed_within zero state octets).items
+unfolding feed_within
+none_within state octets = none_numbered state.last
+
+within_numbered : (most : ℕ) (state : FeedState) (octets : List ℕ) → AreOctets octets → AreNumbered state.last (feed_within most state octets).items
+within_numbered zero state octets all = none_within state octets
+within_numbered (suc most) state octets all =
+    elim (cases_front (front state octets)) [
+      | inl (item, rest, e) ↦
+          let known = stands state octets item rest e in
+          let body = body_octets state octets item rest known all in
+          let new = new_number state item known.checked in
+          elim (cases_Bool (is_finish item.kind)) [
+            | inl last ↦ subst (λ (f : Feed). AreNumbered state.last f.items) (sym (within-last most state octets item rest e last))
+                (more_numbered state.last item [] body new (none_numbered _))
+            | inr further ↦ subst (λ (f : Feed). AreNumbered state.last f.items) (sym (within-more most state octets item rest e further))
+                (more_numbered state.last item (feed_within most (after state item) rest).items body new (within_numbered most (after state item) rest (rest_octets state octets item rest known all)))
+          ]
+      | inr (fault, e) ↦ subst (λ (f : Feed). AreNumbered state.last f.items) (sym (within-fault most state octets fault e)) (none_numbered state.last)
     ]
 
-taken_bodies : (n : ℕ) (items : List FeedRecord) → AllByRecursion HasOctets items → AllByRecursion HasOctets (take n items)
-taken_bodies zero items h = tt
-taken_bodies (suc n) [] h = tt
-taken_bodies (suc n) (item ∷ items) h = (h.0, taken_bodies n items h.1)
+-- ---- fronts of them
 
-after_bodies : (first : FeedRecord) (items : List FeedRecord) (found : Option RosterOf) → AllByRecursion HasOctets items → AllByRecursion HasOctets (after_roster first items found).items
-after_bodies first items None h = tt
-after_bodies first items (Some roster) h = formed_bodies (fresh roster) (record_length first) items h
+read_numbered : (roster : RosterOf) (last : ℕ) (items : List FeedRecord) → AreNumbered last items → AreNumbered last (read_of roster items)
+read_numbered roster last [] h = h
+read_numbered roster last (item ∷ items) h =
+    elim (cases_Bool (is_some (unread_fault roster item))) [
+      | inl e ↦ rw e (none_numbered last)
+      | inr e ↦ rw e (more_numbered last item (read_of roster items) h.bodies.0 h.numbers.0
+          (read_numbered roster (if begins item.kind then item.source else last) items (record { bodies = h.bodies.1; numbers = h.numbers.1 })))
+    ]
 
-record_bodies : (items : List FeedRecord) → AllByRecursion HasOctets items → AllByRecursion HasOctets (meaning_of_records items).items
-record_bodies [] h = tt
-record_bodies (first ∷ items) h = after_bodies first items (first_roster first) h.1
+take_numbered : (count last : ℕ) (items : List FeedRecord) → AreNumbered last items → AreNumbered last (take count items)
+take_numbered zero last items h = none_numbered last
+take_numbered (suc count) last [] h = none_numbered last
+take_numbered (suc count) last (item ∷ items) h =
+    more_numbered last item (take count items) h.bodies.0 h.numbers.0
+    (take_numbered count (if begins item.kind then item.source else last) items (record { bodies = h.bodies.1; numbers = h.numbers.1 }))
 
-pub headline_of : (octets written : List ℕ) → All (λ o. o < 256) octets → HeadlineWritten (feed_meaning octets) written
+-- numbers that rise from one rise from a lower one
+rises_below : (low last : ℕ) (items : List FeedRecord) → low ≤ last → NumbersRise last items → NumbersRise low items
+rises_below low last [] le h = tt
+rises_below low last (item ∷ items) le h = (
+  λ is. let above : last < item.source = h.0 is in omega (arith, le, above),
+  elim (cases_Bool (begins item.kind)) [
+    | inl e ↦ rw e (rw e at h.1)
+    | inr e ↦ rw e (rises_below low last items le (rw e at h.1))
+  ],
+)
+
+-- ---- a whole feed
+
+roster_numbered : (feed : Feed) (items : List FeedRecord) (found : Result RosterOf FaultyLine) → AreNumbered 0 items → AreNumbered 0 (with_roster feed 1 items found).items
+roster_numbered feed items (Ok roster) h = read_numbered roster 0 items h
+roster_numbered feed items (Err fault) h = none_numbered 0
+
+meaning_numbered : (feed : Feed) (items : List FeedRecord) → AreNumbered 0 items → AreNumbered 0 (meaning_of 1 feed items).items
+meaning_numbered feed [] h = h
+meaning_numbered feed (first ∷ items) h =
+    roster_numbered feed items (roster_in first.body)
+    (record { bodies = h.bodies.1; numbers = rises_below 0 (if begins first.kind then first.source else 0) items (omega arith) h.numbers.1 })
+
+pub headline_of : (octets written : List ℕ) → AreOctets octets → HeadlineWritten (feed_meaning octets) written
 unfolding feed_meaning
 headline_of octets written all roster count more is whole =
-    headline roster (take count (meaning_of_records (records_in octets)).items) (taken_bodies count (meaning_of_records (records_in octets)).items (record_bodies (records_in octets) (bodies octets all)))
+    let feed = feed_of before_feeds octets in
+    let numbered = take_numbered count 0 (feed_meaning octets).items (meaning_numbered feed feed.items (within_numbered (length octets + 1) before_feeds octets all)) in
+    headline roster (take count (feed_meaning octets).items) numbered.bodies numbered.numbers

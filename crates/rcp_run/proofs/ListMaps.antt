@@ -1,5 +1,5 @@
 -- A list whose entries are those of a map: what is found at a key, put there, and taken away.
-use Rattle.std.proofs.Common.{◌≡◌, ℕ, zero, suc, ◌+◌, ◌<◌, Bool, true, false, List, [], ◌∷◌, ◌++◌, length, map, get_or, Option, Some, None, refl, sym, ap, ◌∙◌, inl, inr, arith}
+use Rattle.std.proofs.Common.{◌≡◌, ℕ, zero, suc, ◌+◌, ◌<◌, ◌≤◌, Bool, true, false, List, [], ◌∷◌, ◌++◌, length, map, get_or, take, drop, Option, Some, None, refl, sym, ap, ◌∙◌, inl, inr, arith}
 use Rattle.std.specs.Prelude.{is_some}
 use Rattle.std.specs.List.{list_any, position, position_from, remove, AllByRecursion}
 use Rattle.std.proofs.Math.ListN.{set}
@@ -40,7 +40,7 @@ no_place p xs none = none_from p xs 0 (sym (position_from-zero p xs) ∙ none)
 
 -- ---- entries
 
-get_found : {X K V : Type 0} (same : K → K → Bool) (f : X → K × V) (key : K) (xs : List X) (i : ℕ) (d : X) → IsPlace (λ x. same key (f x).0) xs i
+pub get_found : {X K V : Type 0} (same : K → K → Bool) (f : X → K × V) (key : K) (xs : List X) (i : ℕ) (d : X) → IsPlace (λ x. same key (f x).0) xs i
     → get_at same key (map f xs) ≡ Some (f (get_or xs i d)).1
 unfolding IsPlace
 get_found same f key [] i d h = absurd h
@@ -54,7 +54,7 @@ key_found same f key [] i d h = absurd h
 key_found same f key (x ∷ xs) zero d h = h
 key_found same f key (x ∷ xs) (suc i) d h = key_found same f key xs i d h.1
 
-put_found : {X K V : Type 0} (same : K → K → Bool) (f : X → K × V) (key : K) (value : V) (xs : List X) (i : ℕ) (y : X) → IsPlace (λ x. same key (f x).0) xs i → f y ≡ (key, value)
+pub put_found : {X K V : Type 0} (same : K → K → Bool) (f : X → K × V) (key : K) (value : V) (xs : List X) (i : ℕ) (y : X) → IsPlace (λ x. same key (f x).0) xs i → f y ≡ (key, value)
     → map f (set xs i y) ≡ put_at same key value (map f xs)
 unfolding IsPlace
 put_found same f key value [] i y h is = absurd h
@@ -73,7 +73,7 @@ put_none same f key value (x ∷ xs) y none is =
     let parts = or_parts (same key (f x).0) (list_any (λ x. same key (f x).0) xs) none in
     rw parts.0 (ap (λ l. f x ∷ l) (put_none same f key value xs y parts.1 is))
 
-without_found : {X K V : Type 0} (same : K → K → Bool) (f : X → K × V) (key : K) (xs : List X) (i : ℕ) → IsPlace (λ x. same key (f x).0) xs i
+pub without_found : {X K V : Type 0} (same : K → K → Bool) (f : X → K × V) (key : K) (xs : List X) (i : ℕ) → IsPlace (λ x. same key (f x).0) xs i
     → without (same key) (map f (remove xs i)) ≡ without (same key) (map f xs)
 unfolding IsPlace
 without_found same f key [] i h = absurd h
@@ -133,3 +133,32 @@ all_removed P [] zero all = all
 all_removed P [] (suc i) all = all
 all_removed P (x ∷ xs) zero all = all.1
 all_removed P (x ∷ xs) (suc i) all = (all.0, all_removed P xs i all.1)
+
+-- ---- lists that are changed from the front on, place by place
+
+-- an element that is changed at its place
+pub changed_at : {X E : Type 0} (g : X → E) (f : E → E) (i : ℕ) (before : List E) (xs : List X) (x y : X) → i < length xs → x ≡ get_or xs i x
+    → map g xs ≡ map f (take i before) ++ drop i before → g y ≡ f (g x)
+    → (drop i before ≡ g x ∷ drop (suc i) before) × (map g (set xs i y) ≡ map f (take (suc i) before) ++ drop (suc i) before)
+changed_at g f i before [] x y within is all changed = absurd (omega arith)
+changed_at g f zero [] (z ∷ xs) x y within is all changed = absurd cc
+changed_at g f zero (e ∷ before) (z ∷ xs) x y within is all changed =
+    let first : g z ≡ e = cc in
+    let rest : map g xs ≡ before = cc in
+    let here : g x ≡ e = ap g is ∙ first in
+    (ap (λ d. d ∷ before) (sym here), ap (λ d. d ∷ map g xs) (changed ∙ ap f here) ∙ ap (λ l. f e ∷ l) rest)
+changed_at g f (suc i) [] (z ∷ xs) x y within is all changed = absurd cc
+changed_at g f (suc i) (e ∷ before) (z ∷ xs) x y within is all changed =
+    let first : g z ≡ f e = cc in
+    let rest : map g xs ≡ map f (take i before) ++ drop i before = cc in
+    let more = changed_at g f i before xs x y (omega arith) is rest changed in
+    (more.0, ap (λ d. d ∷ map g (set xs i y)) first ∙ ap (λ l. f e ∷ l) more.1)
+
+-- all are changed where none is left
+pub changed_all : {X E : Type 0} (g : X → E) (f : E → E) (i : ℕ) (before : List E) (xs : List X) → length xs ≤ i → map g xs ≡ map f (take i before) ++ drop i before → length before ≤ i
+changed_all g f i [] xs few all = omega arith
+changed_all g f zero (e ∷ before) [] few all = absurd cc
+changed_all g f zero (e ∷ before) (x ∷ xs) few all = absurd (omega (arith, few))
+changed_all g f (suc i) (e ∷ before) [] few all = absurd cc
+changed_all g f (suc i) (e ∷ before) (x ∷ xs) few all =
+    let rest : map g xs ≡ map f (take i before) ++ drop i before = cc in omega (arith, changed_all g f i before xs (omega (arith, few)) rest)

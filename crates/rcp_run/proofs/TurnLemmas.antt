@@ -1,180 +1,339 @@
--- One record more: what is answered from the platform after it is the answer from before it.
-use Rattle.std.proofs.Common.{◌≡◌, ℕ, suc, zero-add, ◌+◌, ◌^◌, ◌<◌, Bool, true, false, ◌&&◌, eqb, List, [], ◌∷◌, ◌++◌, length, take, drop, Option, Some, refl, sym, ap, ◌∙◌, inl, inr, arith, append_assoc}
-use Rattle.std.specs.List.{flat_map}
-use Rattle.std.specs.Int.{w32, to_be_bytes}
-use Rattle.std.proofs.lemmas.List.{append-nil, drop_at, length-append, take-append-drop}
-use Rattle.std.proofs.lemmas.Grind.{flat_map-append}
-use Rattle.std.proofs.lemmas.Bool.{and_parts, eqb-true}
-use Rattle.outside.specs.Told.{in_front, behind, behind-append, behind-nil}
-use Rattle.rcp_model.specs.Feed.{FeedRecord, FitsFrame, FINISH, record_octets, records_in}
-use Rattle.rcp_model.specs.Meaning.{Platform, step, output, out_octets, all_output}
-use Rattle.rcp_model.specs.Plain as plain
-use Rattle.rcp_model.specs.Plain.{is_plausible, has_form, is_end, record_length, ending, formed, octets_through}
-use Rattle.rcp_model.proofs.RecordLemmas.{records_in-front, ending-more, formed-more, ending-finish, formed-finish, ending-refused, formed-refused, ending-none, ending-long, formed-long, implausible-form, implausible-end}
-use Rattle.rcp_run.specs.declared.status.Status.{Status}
-use Rattle.rcp_run.specs.declared.status.Status.TheVariants.{Done, Usage, Feed, Read, Write, NoMemory}
-use Rattle.rcp_run.specs.declared.status.FeedWhy.TheVariants.{TooLong, BadBody}
-use Rattle.rcp_run.specs.Answers.{EndsSo, WroteFront, WroteSo, AnswersFrom}
-use Rattle.rcp_run.specs.Records.{IsUnread, RefusesNext}
-use Rattle.rcp_run.proofs.NextLemmas.{told_front}
+-- What the turns of a record do to the platform.
+use Rattle.std.proofs.Common.{◌≡◌, ℕ, ◌+◌, ◌<◌, Bool, true, false, cond, not, ◌&&◌, eqb, List, [], ◌∷◌, ◌++◌, length, map, set, get_or, take, drop, filter, Option, Some, None, refl, sym, ap, subst, ◌∙◌, inl, inr, arith, append-nil}
+use Rattle.std.specs.List.{position, flat_map, AllByRecursion}
+use Rattle.std.proofs.lemmas.Bool.{cases_Bool, eqb-true, eq-eqb}
+use Rattle.std.proofs.lemmas.List.{map-append}
+use Rattle.rcp_model.proofs.ServerLemmas.{number_test}
+use Rattle.rcp_base.specs.Feed.{OutRecord}
+use Rattle.rcp_model.specs.Rosters.{RosterOf}
+use Rattle.rcp_model.specs.Maps.{set_at, without}
+use Rattle.rcp_model.specs.LinkState.{same_number}
+use Rattle.rcp_model.specs.Control.{Domain, Server, after, after_all}
+use Rattle.rcp_model.specs.Sessions.{SessionState, Input, Octets, Seat, Moment, Answer, Doing, is_closed, then_also, answer, begun, begun_established, stepped, seat_taken}
+use Rattle.rcp_model.specs.Telling.{AreOctets, BringsOctets, IsTold}
+use Rattle.rcp_model.specs.Meaning.{Connections, Platform, Turn, domain_of, turn, simple_turn, octets_turn, ready_turn, claim_turn, connection_at, if_open, is_slot, is_free, seat_of, seat_events, turn_events, turn_output, messages_to, end_record, after_turn, after_turns}
+use Rattle.session_core.specs.declared.actions.Actions.{Actions}
+use Rattle.session_core.specs.Shown.{doing_of}
+use Rattle.session_core.specs.Held.{Answers}
+use Rattle.rcp_run.specs.declared.engine.Connection.{Connection}
+use Rattle.rcp_run.specs.State.{connection_in, connections_in, AreNumbered, numbers_of, IsWhole}
+use Rattle.rcp_run.specs.Turns.{TookTurn, timed_in}
+use Rattle.rcp_model.proofs.KeptLemmas.{kept-octets, told-answer}
+use Rattle.rcp_run.proofs.ListMaps.{IsPlace, place_is, nothing_there}
+use Rattle.rcp_run.proofs.EventLemmas.{without_nothing, put_new, after_none, after_all-more}
+use Rattle.rcp_run.proofs.ConnectionLemmas.{all_both, set_twice, free_beside, above_none, get_set, settled, entries_settled, numbered_settled, all_settled, place_within, found_at, connected_at, disconnected, below_none, numbers_push}
 
--- nothing was written
-pub wrote_nothing : (taken : Option (List ℕ)) (out : List ℕ) → WroteFront taken taken out
-wrote_nothing taken out = ([], out, sym (behind-nil taken), refl)
+pub platform_is : (p q : Platform) → p.roster ≡ q.roster → p.connections ≡ q.connections → p.moment ≡ q.moment → p.server ≡ q.server → p.updates ≡ q.updates → p ≡ q
+platform_is p q a b c d e = λ i. record { roster = a i; connections = b i; moment = c i; server = d i; updates = e i }
 
--- a front of what follows, behind what was written whole
-wrote_after : (before between now : Option (List ℕ)) (first rest : List ℕ) → between ≡ behind before first → WroteFront between now rest → WroteFront before now (first ++ rest)
-wrote_after before between now first rest a w =
-    (first ++ w.0, w.1, w.2 ∙ ap (λ (t : Option (List ℕ)). behind t w.0) a ∙ behind-append before first w.0, ap (λ (l : List ℕ). first ++ l) w.3 ∙ sym (append_assoc first w.0 w.1))
+-- ---- one turn
 
-all_after : (before between now : Option (List ℕ)) (first rest : List ℕ) → between ≡ behind before first → now ≡ behind between rest → now ≡ behind before (first ++ rest)
-all_after before between now first rest a b = b ∙ ap (λ (t : Option (List ℕ)). behind t rest) a ∙ behind-append before first rest
+pub turned : (p q : Platform) (t : Turn) → q.roster ≡ p.roster → q.moment ≡ p.moment → q.updates ≡ p.updates
+    → q.connections ≡ set_at same_number t.number (if_open t.answer.after) p.connections
+    → q.server ≡ after_all (domain_of p.roster) (turn_events t) p.server → q ≡ after_turns (t ∷ []) p
+turned p q t roster moment updates connections server = platform_is q (after_turn t p) roster connections moment server updates
 
-wrote-so_after : (status : Status) (before between now : Option (List ℕ)) (first rest : List ℕ) → between ≡ behind before first → WroteSo status between now rest → WroteSo status before now (first ++ rest)
-wrote-so_after Done before between now first rest a w = all_after before between now first rest a w
-wrote-so_after (Feed number why) before between now first rest a w = all_after before between now first rest a w
-wrote-so_after Usage before between now first rest a w = wrote_after before between now first rest a w
-wrote-so_after Read before between now first rest a w = wrote_after before between now first rest a w
-wrote-so_after Write before between now first rest a w = wrote_after before between now first rest a w
-wrote-so_after NoMemory before between now first rest a w = wrote_after before between now first rest a w
+-- ---- a turn of the session at a place
 
--- ---- no record was read
+pub whole_after : (roster : RosterOf) (input : Input) (c now : Connection) (actions : Actions) → IsWhole c → BringsOctets input
+    → Answers (answer roster input c.session.state) c.session now.session actions → IsWhole now
+whole_after roster input c now actions whole brings did =
+    record { unspent = did.now; kept = subst (λ (s : SessionState). AreOctets s.kept) (sym did.after) (kept-octets roster input c.session.state whole.kept brings) }
 
--- a status that says nothing of the feed, where nothing was written
-none_read : (platform : Platform) (number past : ℕ) (status : Status) (octets : List ℕ) (left taken : Option (List ℕ)) → EndsSo status (ending platform number past (records_in octets)) → (status ≡ Done → ⊥)
-    → WroteSo status taken taken (flat_map out_octets (all_output platform (formed platform past (records_in octets)))) → AnswersFrom platform number past status octets left taken taken
-none_read platform number past status octets left taken ended unfinished written = record { ended = ended; through = λ is. absurd (unfinished is); written = written }
+pub told_by : (roster : RosterOf) (input : Input) (c now : Connection) (actions : Actions) → IsWhole c → BringsOctets input
+    → Answers (answer roster input c.session.state) c.session now.session actions → AllByRecursion (IsTold roster.as_number) (doing_of actions).events
+told_by roster input c now actions whole brings did =
+    subst (λ (d : Doing). AllByRecursion (IsTold roster.as_number) d.events) (sym did.does) (told-answer roster input c.session.state whole.kept brings)
 
--- where no record is of the form, nothing is put out
-nothing_out : (platform : Platform) (items : List FeedRecord) (taken : Option (List ℕ)) → items ≡ [] → taken ≡ behind taken (flat_map out_octets (all_output platform items))
-unfolding all_output
-nothing_out platform items taken none = rw (none, all_output) (sym (behind-nil taken))
+pub took_simple : (roster : RosterOf) (input : Input) (xs ys : List Connection) (i : ℕ) (c now : Connection) (seat : Option ℕ) (actions : Actions) → IsWhole c → BringsOctets input
+    → ys ≡ set xs i now → now.number ≡ c.number → seat ≡ seat_of c.session.state.phase
+    → Answers (answer roster input c.session.state) c.session now.session actions
+    → TookTurn roster.as_number (simple_turn roster input (connection_in c)) xs ys i seat actions
+took_simple roster input xs ys i c now seat actions whole brings connections number seat_is did = record {
+  now = now;
+  connections = connections;
+  whole = whole_after roster input c now actions whole brings did;
+  number = number;
+  after = did.after;
+  held = seat_is;
+  does = did.does;
+  told = told-answer roster input c.session.state whole.kept brings;
+}
 
-bad_body : (platform : Platform) (at number past : ℕ) (octets : List ℕ) (left taken : Option (List ℕ)) → at ≡ number → ending platform number past (records_in octets) ≡ plain.BadBody number → formed platform past (records_in octets) ≡ []
-    → AnswersFrom platform number past (Feed at BadBody) octets left taken taken
-bad_body platform at number past octets left taken same ended none =
-    none_read platform number past (Feed at BadBody) octets left taken (ended ∙ ap plain.BadBody (sym same)) (λ is. cc) (nothing_out platform _ taken none)
+pub took_unclaimed : (p : Platform) (octets : List ℕ) (xs ys : List Connection) (i : ℕ) (c now : Connection) (seat : Option ℕ) (actions : Actions) → IsWhole c → AreOctets octets
+    → ys ≡ set xs i now → now.number ≡ c.number → seat ≡ seat_of c.session.state.phase → actions.claim ≡ None
+    → Answers (answer p.roster (Octets octets p.moment) c.session.state) c.session now.session actions
+    → TookTurn p.roster.as_number (octets_turn p octets (connection_in c)) xs ys i seat actions
+took_unclaimed p octets xs ys i c now seat actions whole brings connections number seat_is none did =
+    let first = answer p.roster (Octets octets p.moment) c.session.state in
+    let unclaimed : first.does.claim ≡ None = ap (λ (d : Doing). d.claim) (sym did.does) ∙ none in
+    subst (λ (o : Option ℕ). TookTurn p.roster.as_number (claim_turn p c.number (seat_of c.session.state.phase) first o) xs ys i seat actions) (sym unclaimed)
+    (took_simple p.roster (Octets octets p.moment) xs ys i c now seat actions whole brings connections number seat_is did)
 
-unread-ends : (platform : Platform) (at number past : ℕ) (octets : List ℕ) (left taken : Option (List ℕ)) → at ≡ number → past < 2 ^ 40 → IsUnread octets → AnswersFrom platform number past (Feed at BadBody) octets left taken taken
-unfolding formed
-unread-ends platform at number past octets left taken same few (inl none) =
-    bad_body platform at number past octets left taken same (rw none (ending-none platform number past few)) (rw none refl)
-unread-ends platform at number past octets left taken same few (inr (item, items, is, isnt)) =
-    bad_body platform at number past octets left taken same
-    (rw is (ending-refused platform number past item items few (implausible-end item isnt) (implausible-form platform item isnt)))
-    (rw is (formed-refused platform number past item items few (implausible-end item isnt) (implausible-form platform item isnt)))
+-- a claim that is answered at once
+pub took_claimed : (p : Platform) (octets : List ℕ) (xs ys zs : List Connection) (i : ℕ) (c between now : Connection) (slot : ℕ) (free : Bool) (seat : Option ℕ) (first second both : Actions)
+    → IsWhole c → AreOctets octets → p.connections ≡ connections_in xs → i < length xs → c ≡ get_or xs i c
+    → ys ≡ set xs i between → between.number ≡ c.number → zs ≡ set ys i now → now.number ≡ between.number
+    → first.claim ≡ Some slot
+    → free ≡ (not (is_slot slot (seat_of c.session.state.phase)) && (is_free (connections_in (take i ys)) slot && is_free (connections_in (drop (i + 1) ys)) slot))
+    → seat ≡ cond free (Some slot) None
+    → Answers (answer p.roster (Octets octets p.moment) c.session.state) c.session between.session first
+    → Answers (answer p.roster (Seat free p.moment) between.session.state) between.session now.session second
+    → doing_of both ≡ then_also (doing_of first) (doing_of second)
+    → TookTurn p.roster.as_number (octets_turn p octets (connection_in c)) xs zs i seat both
+took_claimed p octets xs ys zs i c between now slot free seat first second both whole brings connections within is ys_are number zs_are number' some free_is seat_is did next both_are =
+    let one = answer p.roster (Octets octets p.moment) c.session.state in
+    let claimed : one.does.claim ≡ Some slot = ap (λ (d : Doing). d.claim) (sym did.does) ∙ some in
+    let free_too : free ≡ is_free p.connections slot = free_is ∙ sym (free_beside slot xs ys i c between within is ys_are) ∙ ap (λ (es : Connections). is_free es slot) (sym connections) in
+    let middle = whole_after p.roster (Octets octets p.moment) c between first whole brings did in
+    let two : Answers (answer p.roster (Seat (is_free p.connections slot) p.moment) one.after) between.session now.session second =
+    subst (λ (s : SessionState). Answers (answer p.roster (Seat (is_free p.connections slot) p.moment) s) between.session now.session second) did.after
+    (subst (λ (b : Bool). Answers (answer p.roster (Seat b p.moment) between.session.state) between.session now.session second) free_too next) in
+    let kept : AreOctets one.after.kept = subst (λ (s : SessionState). AreOctets s.kept) did.after middle.kept in
+    subst (λ (o : Option ℕ). TookTurn p.roster.as_number (claim_turn p c.number (seat_of c.session.state.phase) one o) xs zs i seat both) (sym claimed)
+    (record {
+      now = now;
+      connections = zs_are ∙ ap (λ (l : List Connection). set l i now) ys_are ∙ set_twice xs i between now;
+      whole = whole_after p.roster (Seat free p.moment) between now second middle tt next;
+      number = number' ∙ number;
+      after = two.after;
+      held = seat_is ∙ ap (λ (b : Bool). cond b (Some slot) None) free_too;
+      does = both_are ∙ ap (λ (d : Doing). then_also d (doing_of second)) did.does ∙ ap (then_also one.does) two.does;
+      told = all_both (IsTold p.roster.as_number) one.does.events (answer p.roster (Seat (is_free p.connections slot) p.moment) one.after).does.events
+          (told-answer p.roster (Octets octets p.moment) c.session.state whole.kept brings)
+          (told-answer p.roster (Seat (is_free p.connections slot) p.moment) one.after kept tt);
+    })
 
-pub refuses-ends : (platform : Platform) (status : Status) (number past a b : ℕ) (octets : List ℕ) (left now taken : Option (List ℕ)) → RefusesNext status number past left a b → left ≡ Some octets
-    → AnswersFrom platform number past status octets now taken taken
-refuses-ends platform Done number past a b octets left now taken h told = absurd h
-refuses-ends platform Usage number past a b octets left now taken h told = absurd h
-refuses-ends platform Write number past a b octets left now taken h told = absurd h
-refuses-ends platform (Feed at TooLong) number past a b octets left now taken h told =
-    none_read platform number past (Feed at TooLong) octets now taken (ending-long platform number past (records_in octets) h.1 ∙ ap plain.TooLong (sym h.0)) (λ is. cc)
-    (nothing_out platform _ taken (formed-long platform past (records_in octets) h.1))
-refuses-ends platform (Feed at BadBody) number past a b octets left now taken h told = unread-ends platform at number past octets now taken h.0 h.1 (h.2 octets told)
-refuses-ends platform Read number past a b octets left now taken h told = none_read platform number past Read octets now taken tt (λ is. cc) (wrote_nothing taken _)
-refuses-ends platform NoMemory number past a b octets left now taken h told = none_read platform number past NoMemory octets now taken tt (λ is. cc) (wrote_nothing taken _)
+-- ---- a turn that was taken
 
--- ---- a record was read
+-- what a connection is after its turn, and what is left where it is closed
+pub record Settled (p : Platform) (as_number : ℕ) (turn : Turn) (zs : List Connection) : Type 0 where
+  pub connections : connections_in zs ≡ set_at same_number turn.number (if_open turn.answer.after) p.connections
+  pub numbered : AreNumbered (numbers_of (connections_in zs))
+  pub whole : AllByRecursion IsWhole zs
 
-pub length-record : (item : FeedRecord) → length (record_octets item) ≡ 9 + length item.body
-length-record item = omega (arith, length-append (to_be_bytes w32 item.source ++ to_be_bytes w32 (length item.body)) item.body)
+pub settles : (p : Platform) (as_number : ℕ) (turn : Turn) (xs ys zs : List Connection) (i : ℕ) (d : Connection) (seat : Option ℕ) (actions : Actions)
+    → p.connections ≡ connections_in xs → AreNumbered (numbers_of (connections_in xs)) → AllByRecursion IsWhole xs → IsPlace (λ x. same_number d.number (connection_in x).0) xs i
+    → d ≡ get_or xs i d → turn.number ≡ d.number
+    → TookTurn as_number turn xs ys i seat actions → ((c : Connection) → c ≡ get_or ys i c → zs ≡ settled (is_closed c.session.state.phase) ys i)
+    → Settled p as_number turn zs
+settles p as_number turn xs ys zs i d seat actions connections numbered whole there d_is number took left =
+    let place = subst (λ (n : ℕ). IsPlace (λ (x : Connection). same_number n (connection_in x).0) xs i) (sym number) there in
+    let now = took.now in
+    let within = place_within (λ (x : Connection). same_number turn.number (connection_in x).0) xs i place in
+    let here : now ≡ get_or ys i now = get_set xs i now now within ∙ ap (λ (l : List Connection). get_or l i now) (sym took.connections) in
+    let zs_are : zs ≡ settled (is_closed now.session.state.phase) (set xs i now) i = left now here ∙ ap (λ (l : List Connection). settled (is_closed now.session.state.phase) l i) took.connections in
+    record {
+      connections =
+          ap connections_in zs_are ∙ entries_settled turn.number xs i now (is_closed now.session.state.phase) numbered within place took.number refl
+          ∙ ap (λ (s : SessionState). set_at same_number turn.number (if_open s) (connections_in xs)) took.after
+          ∙ ap (set_at same_number turn.number (if_open turn.answer.after)) (sym connections);
+      numbered = subst (λ (l : List Connection). AreNumbered (numbers_of (connections_in l))) (sym zs_are)
+          (numbered_settled xs i d now (is_closed now.session.state.phase) numbered within d_is (took.number ∙ number));
+      whole = subst (AllByRecursion IsWhole) (sym zs_are) (all_settled IsWhole xs i now (is_closed now.session.state.phase) whole took.whole);
+    }
 
-pub drop_past : (xs ys : List ℕ) (n : ℕ) → drop (length xs + n) (xs ++ ys) ≡ drop n ys
-drop_past [] ys n = ap (λ (m : ℕ). drop m ys) (zero-add n)
-drop_past (x ∷ xs) ys n =
-    let shift : length (x ∷ xs) + n ≡ suc (length xs + n) = omega arith in
-    ap (λ (m : ℕ). drop m (x ∷ (xs ++ ys))) shift ∙ drop_past xs ys n
+-- the connection of a number, at its place
+pub record Found (number : ℕ) (xs : List Connection) (i : ℕ) : Type 0 where
+  pub connection : Connection
+  pub is : connection ≡ get_or xs i connection
+  pub place : IsPlace (λ x. same_number connection.number (connection_in x).0) xs i
+  pub same : number ≡ connection.number
+  pub at : connection_at (connections_in xs) number ≡ connection_in connection ∷ []
 
-module _ (platform : Platform) (number past : ℕ) (octets : List ℕ) (item : FeedRecord) (left now : Option (List ℕ))
-    (read : left ≡ in_front (record_octets item) now) (told : left ≡ Some octets) (fits : FitsFrame item) (few : past < 2 ^ 40) where
-  front : (rest : List ℕ) × (now ≡ Some rest) × (octets ≡ record_octets item ++ rest)
-  front = told_front (record_octets item) octets now (sym told ∙ read)
+pub found : (number : ℕ) (xs zs : List Connection) (i : ℕ) → zs ≡ xs → Some i ≡ position (λ (x : Connection). same_number number (connection_in x).0) zs → Found number xs i
+found number xs zs i read some =
+    let test = (λ (x : Connection). same_number number (connection_in x).0) in
+    let place : IsPlace (λ (x : Connection). same_number number (connection_in x).0) xs i = place_is (λ (x : Connection). same_number number (connection_in x).0) xs i
+    (ap (position (λ (x : Connection). same_number number (connection_in x).0)) (sym read) ∙ sym some) in
+    let one = found_at xs i (place_within (λ (x : Connection). same_number number (connection_in x).0) xs i place) in
+    let at = connected_at number xs i one.0 place one.1 in
+    record {
+      connection = one.0;
+      is = one.1;
+      place = subst (λ (n : ℕ). IsPlace (λ (x : Connection). same_number n (connection_in x).0) xs i) at.0 place;
+      same = at.0;
+      at = at.1;
+    }
 
-  first : records_in octets ≡ item ∷ records_in front.0
-  first = ap records_in front.2 ∙ records_in-front item front.0 fits
+pub not_found : (number : ℕ) (xs zs : List Connection) → zs ≡ xs → None ≡ position (λ (x : Connection). same_number number (connection_in x).0) zs → connection_at (connections_in xs) number ≡ []
+not_found number xs zs read none = disconnected number (connections_in xs) (nothing_there same_number number_test connection_in number xs zs read none)
 
-  pub finish-ends : (taken : Option (List ℕ)) → is_end item ≡ true → length item.body ≡ 0 → AnswersFrom platform number past Done octets now taken taken
-  finish-ends taken is_last empty =
-      let none : formed platform past (records_in octets) ≡ [] = rw first (formed-finish platform number past item (records_in front.0) few is_last) in
-      let nine : length (record_octets item) ≡ 9 = omega (arith, length-record item, empty) in
-      record {
-        ended = rw first (ending-finish platform number past item (records_in front.0) few is_last);
-        through = λ _. front.1 ∙ ap Some (sym (rw none (ap (drop 9) front.2 ∙ drop_at (record_octets item) front.0 9 nine)));
-        written = nothing_out platform _ taken none;
-      }
+claim-number : (p : Platform) (n : ℕ) (seat : Option ℕ) (first : Answer) (claim : Option ℕ) → (claim_turn p n seat first claim).number ≡ n
+claim-number p n seat first None = refl
+claim-number p n seat first (Some slot) = refl
 
-  pub unformed-ends : (taken : Option (List ℕ)) (at : ℕ) → at ≡ number → is_end item ≡ false → has_form platform item ≡ false → AnswersFrom platform number past (Feed at BadBody) octets now taken taken
-  unformed-ends taken at same more isnt =
-      bad_body platform at number past octets now taken same
-      (rw first (ending-refused platform number past item (records_in front.0) few more isnt))
-      (rw first (formed-refused platform number past item (records_in front.0) few more isnt))
+pub octets-number : (p : Platform) (octets : List ℕ) (e : ℕ × SessionState) → (octets_turn p octets e).number ≡ e.0
+octets-number p octets e =
+    let first = answer p.roster (Octets octets p.moment) e.1 in claim-number p e.0 (seat_of e.1.phase) first first.does.claim
 
-  pub memory-ends : (taken : Option (List ℕ)) → AnswersFrom platform number past NoMemory octets now taken taken
-  memory-ends taken = none_read platform number past NoMemory octets now taken tt (λ is. cc) (wrote_nothing taken _)
+pub after_found : (p q : Platform) (as_number : ℕ) (ts : List Turn) (t : Turn) (zs : List Connection) → ts ≡ t ∷ [] → Settled p as_number t zs → q.roster ≡ p.roster → q.moment ≡ p.moment → q.updates ≡ p.updates
+    → q.connections ≡ connections_in zs → q.server ≡ after_all (domain_of p.roster) (turn_events t) p.server → q ≡ after_turns ts p
+after_found p q as_number ts t zs one done roster moment updates connections server =
+    turned p q t roster moment updates (connections ∙ done.connections) server ∙ ap (λ (l : List Turn). after_turns l p) (sym one)
 
-  pub write-ends : (before after : Option (List ℕ)) (n : ℕ) (out : List ℕ) → out ≡ flat_map out_octets (output platform item) → after ≡ behind before (take n out) → is_end item ≡ false → has_form platform item ≡ true
-      → AnswersFrom platform number past Write octets now before after
-  unfolding all_output
-  write-ends before after n out out_is taken more is_formed =
-      let rest = flat_map out_octets (all_output (step platform item) (formed (step platform item) (past + record_length item) (records_in front.0))) in
-      record {
-        ended = tt;
-        through = λ is. absurd (unwritten is);
-        written = (
-          take n out,
-          drop n out ++ rest,
-          taken,
-          rw (first, formed-more platform number past item (records_in front.0) few more is_formed) (
-              flat_map-append out_octets (output platform item) _ ∙ ap (λ (l : List ℕ). l ++ rest) (sym out_is ∙ sym (take-append-drop n out)) ∙ append_assoc (take n out) (drop n out) rest),
-        );
-      }
-    where
-      unwritten : Write ≡ Done → ⊥
-      unwritten e = cc
+-- ---- how sessions begin
 
-  pub goes_on : (before between : Option (List ℕ)) (out : List ℕ) → out ≡ flat_map out_octets (output platform item) → between ≡ behind before out → is_end item ≡ false → has_form platform item ≡ true
-      → (rest : List ℕ) × (now ≡ Some rest) × ((status : Status) (left' now' : Option (List ℕ)) → AnswersFrom (step platform item) (number + 1) (past + record_length item) status rest left' between now'
-      → AnswersFrom platform number past status octets left' before now')
-  unfolding all_output
-  goes_on before between out out_is taken more is_formed = (
-    front.0,
-    front.1,
-    λ status left' now' h.
-        let formed_is = formed-more platform number past item (records_in front.0) few more is_formed in
-        record {
-          ended = rw (first, ending-more platform number past item (records_in front.0) few more is_formed) h.ended;
-          through = λ is. h.through is ∙ ap Some (rw (first, formed_is) (later _));
-          written = rw (first, formed_is, flat_map-append out_octets (output platform item) _) (
-              wrote-so_after status before between now' (flat_map out_octets (output platform item)) _ (taken ∙ ap (behind before) out_is) h.written);
-        },
-  )
-    where
-      later : (n : ℕ) → drop n front.0 ≡ drop (record_length item + n) octets
-      later n = sym (drop_past (record_octets item) front.0 n) ∙ ap (λ (m : ℕ). drop (m + n) (record_octets item ++ front.0)) (length-record item) ∙ ap (drop (record_length item + n)) (sym front.2)
+pub begun-still : (roster : RosterOf) (now : ℕ) → is_closed (begun roster now).after.phase ≡ false
+unfolding begun
+begun-still roster now = refl
 
--- ---- what kinds say
+pub established-still : (slot : ℕ) → is_closed (begun_established slot).after.phase ≡ false
+unfolding begun_established
+established-still slot = refl
 
-pub end-of : (item : FeedRecord) (b : Bool) → is_plausible item ≡ true → b ≡ eqb item.kind FINISH → is_end item ≡ b
-end-of item b ok is = rw ok (sym is)
+pub no-octets-begun : (roster : RosterOf) (now : ℕ) → AreOctets (begun roster now).after.kept
+unfolding begun
+no-octets-begun roster now = λ k d within. absurd (omega (arith, within))
 
-pub end-empty : (item : FeedRecord) → is_plausible item ≡ true → eqb item.kind FINISH ≡ true → length item.body ≡ 0
-unfolding is_plausible
-end-empty item ok is =
-    let kind_is : item.kind ≡ FINISH = eqb-true item.kind FINISH is in
-    let last : (eqb item.source 0 && eqb (length item.body) 0) ≡ true = rw kind_is at ok in
-    eqb-true (length item.body) 0 (and_parts _ _ last).1
+pub no-octets-established : (slot : ℕ) → AreOctets (begun_established slot).after.kept
+unfolding begun_established
+no-octets-established slot = λ k d within. absurd (omega (arith, within))
 
-pub moved : (p q : Platform) (m n j k : ℕ) (status : Status) (octets : List ℕ) (left before now : Option (List ℕ)) → p ≡ q → m ≡ n → j ≡ k → AnswersFrom p m j status octets left before now → AnswersFrom q n k status octets left before now
-moved p q m n j k status octets left before now a b c h = rw (← a, ← b, ← c) h
+pub told-begun : (roster : RosterOf) (now : ℕ) → AllByRecursion (IsTold roster.as_number) (begun roster now).does.events
+unfolding begun
+told-begun roster now = tt
 
--- ---- what every status says of what was written
+pub told-established : (as_number slot : ℕ) → AllByRecursion (IsTold as_number) (begun_established slot).does.events
+unfolding begun_established
+told-established as_number slot = (tt, tt)
 
-pub front_of : (status : Status) (before now : Option (List ℕ)) (out : List ℕ) → WroteSo status before now out → WroteFront before now out
-front_of Done before now out w = (out, [], w, sym (append-nil out))
-front_of (Feed number why) before now out w = (out, [], w, sym (append-nil out))
-front_of Usage before now out w = w
-front_of Read before now out w = w
-front_of Write before now out w = w
-front_of NoMemory before now out w = w
+-- a connection that begins
+pub begun_one : (p q : Platform) (t : Turn) (cs ds : List Connection) (new : Connection) → p.connections ≡ connections_in cs → AllByRecursion (λ (e : ℕ × SessionState). e.0 < t.number) (connections_in cs)
+    → ds ≡ cs ++ new ∷ [] → new.number ≡ t.number → new.session.state ≡ t.answer.after → is_closed t.answer.after.phase ≡ false
+    → q.roster ≡ p.roster → q.moment ≡ p.moment → q.updates ≡ p.updates → q.connections ≡ connections_in ds → q.server ≡ after_all (domain_of p.roster) (turn_events t) p.server
+    → q ≡ after_turns (t ∷ []) p
+begun_one p q t cs ds new connections above more number after still roster moment updates connections' server =
+    let absent = below_none t.number (connections_in cs) above in
+    let put : set_at same_number t.number (if_open t.answer.after) (connections_in cs) ≡ connections_in cs ++ (t.number, t.answer.after) ∷ [] =
+    rw still (put_new same_number t.number t.answer.after (connections_in cs) absent) in
+    turned p q t roster moment updates
+    (connections' ∙ ap connections_in more ∙ map-append connection_in cs (new ∷ [])
+    ∙ ap (λ (n : ℕ). connections_in cs ++ (let e : ℕ × SessionState = (n, new.session.state) in e) ∷ []) number
+    ∙ ap (λ (s : SessionState). connections_in cs ++ (let e : ℕ × SessionState = (t.number, s) in e) ∷ []) after
+    ∙ sym put ∙ ap (set_at same_number t.number (if_open t.answer.after)) (sym connections))
+    server
+
+pub numbered_more : (cs ds : List Connection) (new : Connection) → AreNumbered (numbers_of (connections_in cs)) → AllByRecursion (λ (e : ℕ × SessionState). e.0 < new.number) (connections_in cs) → ds ≡ cs ++ new ∷ []
+    → AreNumbered (numbers_of (connections_in ds))
+numbered_more cs ds new numbered above more =
+    subst (λ (l : List ℕ). AreNumbered l)
+    (sym (ap (λ (l : List Connection). numbers_of (connections_in l)) more ∙ ap numbers_of (map-append connection_in cs (new ∷ [])) ∙ map-append (λ (e : ℕ × SessionState). e.0) (connections_in cs) (connection_in new ∷ [])))
+    (numbers_push (numbers_of (connections_in cs)) new.number numbered (below (connections_in cs) above)) where
+      below : (es : Connections) → AllByRecursion (λ (e : ℕ × SessionState). e.0 < new.number) es → AllByRecursion (λ m. m < new.number) (numbers_of es)
+      below [] all = tt
+      below (e ∷ es) all = (all.0, below es all.1)
+
+pub ready-free : (p : Platform) (number slot : ℕ) (named : Option ℕ) → Some slot ≡ named → is_free p.connections slot ≡ true → turn number (Some slot) (begun_established slot) ∷ [] ≡ ready_turn p number named
+ready-free p number slot named some free = rw (← some) (rw free refl)
+
+pub ready-taken : (p : Platform) (number slot : ℕ) (named : Option ℕ) → Some slot ≡ named → is_free p.connections slot ≡ false → AllByRecursion (λ (e : ℕ × SessionState). e.0 < number) p.connections
+    → p ≡ after_turns (ready_turn p number named) p
+ready-taken p number slot named some taken above =
+    rw (← some) (rw taken (turned p p (turn number None (stepped 0 [] seat_taken)) refl refl refl
+    (sym (without_nothing same_number number p.connections (below_none number p.connections above))) (sym (after_none (domain_of p.roster) p.server))))
+
+pub served : (domain : Domain) (turn : Turn) (seat : Option ℕ) (does : Doing) (s t : Server) → seat ≡ turn.seat → does ≡ turn.answer.does
+    → t ≡ after_all domain (seat_events seat does) s → t ≡ after_all domain (turn_events turn) s
+served domain turn seat does s t seat_is does_is is = is ∙ ap (λ (o : Option ℕ). after_all domain (seat_events o does) s) seat_is ∙ ap (λ (d : Doing). after_all domain (seat_events turn.seat d) s) does_is
+
+pub put_more : (turn : Turn) (number : ℕ) (does : Doing) (out outs : List OutRecord) → outs ≡ out ++ (messages_to number does.sent ++ end_record number does.closed) → number ≡ turn.number → does ≡ turn.answer.does
+    → outs ≡ out ++ turn_output turn
+put_more turn number does out outs is number_is does_is =
+    is ∙ ap (λ (n : ℕ). out ++ (messages_to n does.sent ++ end_record n does.closed)) number_is
+    ∙ ap (λ (d : Doing). out ++ (messages_to turn.number d.sent ++ end_record turn.number d.closed)) does_is
+
+pub put_out : (turn : Turn) (number : ℕ) (does : Doing) (out outs : List OutRecord) → outs ≡ out ++ (messages_to number does.sent ++ end_record number does.closed) → out ≡ [] → number ≡ turn.number → does ≡ turn.answer.does
+    → outs ≡ flat_map turn_output (turn ∷ [])
+put_out turn number does out outs is none number_is does_is =
+    put_more turn number does out outs is number_is does_is ∙ ap (λ (l : List OutRecord). l ++ turn_output turn) none ∙ sym (append-nil (turn_output turn))
+
+-- ---- a moment comes to each session
+
+abbrev placed : List Turn → Connections → Connections
+placed [] es = es
+placed (t ∷ ts) es = placed ts (set_at same_number t.number (if_open t.answer.after) es)
+
+all_turns : (ts : List Turn) (p : Platform) → after_turns ts p ≡ record p {
+  connections = placed ts p.connections;
+  server = after_all (domain_of p.roster) (flat_map turn_events ts) p.server;
+}
+unfolding after_all
+all_turns [] p = refl
+all_turns (t ∷ ts) p =
+    all_turns ts (after_turn t p)
+    ∙ ap (λ (s : Server). let r : Platform = record p { connections = placed (t ∷ ts) p.connections; server = s } in r)
+    (sym (after_all-more (domain_of p.roster) (turn_events t) (flat_map turn_events ts) p.server))
+
+abbrev pub opened : Connections → Connections
+opened es = filter (λ (e : ℕ × SessionState). not (is_closed e.1.phase)) es
+
+module _ (roster : RosterOf) (now : ℕ) where
+  abbrev time_turn : ℕ × SessionState → Turn
+  time_turn e = simple_turn roster (Moment now) e
+
+  stays : (n : ℕ) (s : SessionState) (es fs : Connections) → AllByRecursion (λ m. n < m) (numbers_of es) → placed (map time_turn es) ((n, s) ∷ fs) ≡ (n, s) ∷ placed (map time_turn es) fs
+  stays n s [] fs above = refl
+  stays n s (e ∷ es) fs above =
+      ap (placed (map time_turn es)) (passed (if_open (answer roster (Moment now) e.1).after)) ∙ stays n s es (set_at same_number e.0 (if_open (answer roster (Moment now) e.1).after) fs) above.1 where
+        other : eqb e.0 n ≡ false
+        other = elim (cases_Bool (eqb e.0 n)) [
+          | inl same ↦ let is : e.0 ≡ n = eqb-true e.0 n same in absurd (omega (arith, is, above.0))
+          | inr differ ↦ differ
+        ]
+
+        passed : (v : Option SessionState) → set_at same_number e.0 v ((n, s) ∷ fs) ≡ (n, s) ∷ set_at same_number e.0 v fs
+        passed None = rw other refl
+        passed (Some t) = rw other refl
+
+  pub passed_all : (es : Connections) → AreNumbered (numbers_of es) → placed (map time_turn es) es ≡ opened (map (timed_in roster now) es)
+  passed_all [] numbered = refl
+  passed_all (e ∷ es) numbered = by_phase (is_closed (answer roster (Moment now) e.1).after.phase) refl (passed_all es numbered.1) where
+    itself : eqb e.0 e.0 ≡ true
+    itself = eq-eqb e.0 e.0 refl
+
+    if-closed : (s : SessionState) → is_closed s.phase ≡ true → set_at same_number e.0 (if_open s) (e ∷ es) ≡ without (same_number e.0) es
+    if-closed s closed = rw closed (rw itself refl)
+
+    if-still : (s : SessionState) → is_closed s.phase ≡ false → set_at same_number e.0 (if_open s) (e ∷ es) ≡ (e.0, s) ∷ es
+    if-still s still = rw still (rw itself refl)
+
+    by_phase : (b : Bool) → is_closed (answer roster (Moment now) e.1).after.phase ≡ b → placed (map time_turn es) es ≡ opened (map (timed_in roster now) es)
+        → placed (map time_turn (e ∷ es)) (e ∷ es) ≡ opened (map (timed_in roster now) (e ∷ es))
+    by_phase true closed rest =
+        let kept : opened (map (timed_in roster now) (e ∷ es)) ≡ opened (map (timed_in roster now) es) = rw closed refl in
+        let first : set_at same_number e.0 (if_open (answer roster (Moment now) e.1).after) (e ∷ es) ≡ es =
+        if-closed (answer roster (Moment now) e.1).after closed ∙ without_nothing same_number e.0 es (above_none e.0 es numbered.0) in
+        ap (placed (map time_turn es)) first ∙ rest ∙ sym kept
+    by_phase false still rest =
+        let kept : opened (map (timed_in roster now) (e ∷ es)) ≡ (e.0, (answer roster (Moment now) e.1).after) ∷ opened (map (timed_in roster now) es) = rw still refl in
+        ap (placed (map time_turn es)) (if-still (answer roster (Moment now) e.1).after still)
+        ∙ stays e.0 (answer roster (Moment now) e.1).after es es numbered.0
+        ∙ ap (λ (l : Connections). (e.0, (answer roster (Moment now) e.1).after) ∷ l) rest ∙ sym kept
+
+opened_in : (cs : List Connection) → connections_in (filter (λ (c : Connection). not (is_closed c.session.state.phase)) cs) ≡ opened (connections_in cs)
+opened_in [] = refl
+opened_in (c ∷ cs) =
+    elim (cases_Bool (is_closed c.session.state.phase)) [
+      | inl e ↦ rw e (opened_in cs)
+      | inr e ↦ rw e (ap (λ (l : Connections). connection_in c ∷ l) (opened_in cs))
+    ]
+
+pub numbers_timed : (roster : RosterOf) (now : ℕ) (es : Connections) → numbers_of (map (timed_in roster now) es) ≡ numbers_of es
+numbers_timed roster now [] = refl
+numbers_timed roster now (e ∷ es) = ap (λ (l : List ℕ). e.0 ∷ l) (numbers_timed roster now es)
+
+pub time_passed : (p q : Platform) (now : ℕ) (cs ds : List Connection) → AreNumbered (numbers_of p.connections)
+    → q.roster ≡ p.roster → q.moment ≡ now → q.updates ≡ p.updates
+    → connections_in cs ≡ map (timed_in p.roster now) p.connections → ds ≡ filter (λ (c : Connection). not (is_closed c.session.state.phase)) cs → q.connections ≡ connections_in ds
+    → q.server ≡ after_all (domain_of p.roster) (flat_map turn_events (map (simple_turn p.roster (Moment now)) p.connections)) p.server
+    → q ≡ after_turns (map (simple_turn p.roster (Moment now)) p.connections) (record p { moment = now })
+time_passed p q now cs ds numbered roster moment updates ticked left connections server =
+    platform_is q (record p {
+      moment = now;
+      connections = placed (map (simple_turn p.roster (Moment now)) p.connections) p.connections;
+      server = after_all (domain_of p.roster) (flat_map turn_events (map (simple_turn p.roster (Moment now)) p.connections)) p.server;
+    }) roster
+    (connections ∙ ap connections_in left ∙ opened_in cs ∙ ap opened ticked ∙ sym (passed_all p.roster now p.connections numbered))
+    moment server updates
+    ∙ sym (all_turns (map (simple_turn p.roster (Moment now)) p.connections) (record p { moment = now }))

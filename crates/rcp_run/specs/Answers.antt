@@ -1,78 +1,149 @@
--- The statuses of `run`: the code of each, what has to have happened for it, and what it says of the feed.
-use Rattle.std.specs.Prelude.{◌≡◌, ℕ, ◌+◌, ◌++◌, List, drop, Option, Some}
-use Rattle.std.specs.List.{flat_map}
+-- The statuses of `run`: what has to have happened for each, and what it says of the feed and of what was written.
+use Rattle.std.specs.Prelude.{◌≡◌, ◌≢◌, ℕ, ◌+◌, ◌≤◌, false, List, [], ◌∷◌, ◌++◌, Option, Some}
+use Rattle.std.specs.List.{flat_map, AllByRecursion}
 use Rattle.outside.specs.Told.{Rose, behind}
-use Rattle.rcp_model.specs.Feed.{records_in}
-use Rattle.rcp_model.specs.Meaning.{Platform, out_octets, all_output}
-use Rattle.rcp_model.specs.Plain as plain
-use Rattle.rcp_run.specs.declared.feed.Reader.{Reader}
-use Rattle.rcp_run.specs.declared.status.Status.{Status}
-use Rattle.rcp_run.specs.declared.status.Status.TheVariants.{Done, Usage, Feed, Read, Write, NoMemory}
-use Rattle.rcp_run.specs.declared.status.FeedWhy.TheVariants.{TooLong, BadBody}
+use Rattle.rcp_base.specs.Feed.{FeedRecord, FeedState, feed_of, out_octets}
+use Rattle.rcp_model.specs.Meaning.{Platform, all_output}
+use Rattle.rcp_model.specs.WholeFeed.{FeedEnd, Finished, FaultyRecord, FaultyRoster, StopsInLast, feed_meaning, whole_output, end_of, read_of}
+use Rattle.feed_format.specs.declared.status.Status.{Status}
+use Rattle.feed_format.specs.declared.status.Status.TheVariants.{Done, Usage, Feed, Roster, Read, Write, NoMemory, NoPath, NetFault}
+use Rattle.feed_format.specs.declared.reader.FeedRefusal.{FeedRefusal}
+use Rattle.feed_format.specs.declared.reader.FeedRefusal.TheVariants as refusal
 
--- the status that a program ends with
-abbrev pub code_of : Status → ℕ
-code_of Done = 0
-code_of Usage = 2
-code_of (Feed number why) = 3
-code_of Read = 5
-code_of Write = 6
-code_of NoMemory = 7
+-- the status of a run whose next record isn't given
+abbrev pub status_of : FeedRefusal → Status
+status_of (refusal.Feed number why) = Feed number why
+status_of refusal.Read = Read
+status_of refusal.NoMemory = NoMemory
 
 -- A status that comes while a feed is read and answered, with the counts of faults of the source and of the sink
--- before and after: Read only where the source's count rose, Write only where the sink's did, and never Usage.
+-- before and after: Read only where the source's count rose, Write only where the sink's did.
 abbrev pub HasCause : Status → (source_before source_now sink_before sink_now : ℕ) → Type 0
 HasCause Done a b c d = Unit {0}
 HasCause Usage a b c d = ⊥
 HasCause (Feed number why) a b c d = Unit {0}
+HasCause (Roster number line why) a b c d = Unit {0}
 HasCause Read a b c d = Rose a b
 HasCause Write a b c d = Rose c d
 HasCause NoMemory a b c d = Unit {0}
+HasCause (NoPath refused) a b c d = ⊥
+HasCause NetFault a b c d = ⊥
 
--- The feed ended so: at Z for Done, at that record and for that reason for Feed. Other statuses say nothing of it.
-abbrev pub EndsSo : Status → plain.Ending → Type 0
-EndsSo Done end = end ≡ plain.Finished
-EndsSo (Feed number TooLong) end = end ≡ plain.TooLong number
-EndsSo (Feed number BadBody) end = end ≡ plain.BadBody number
+-- The feed ended so: at Z for Done, at that record for Feed, at that line of the roster for Roster. The statuses of
+-- other commands never come, and the rest say nothing of the feed's end.
+abbrev pub EndsSo : Status → FeedEnd → Type 0
+EndsSo Done end = end ≡ Finished
 EndsSo Usage end = Unit {0}
+EndsSo (Feed number why) end = end ≡ FaultyRecord number why
+EndsSo (Roster number line why) end = end ≡ FaultyRoster number (record { line = line; why = why })
 EndsSo Read end = Unit {0}
 EndsSo Write end = Unit {0}
 EndsSo NoMemory end = Unit {0}
+EndsSo (NoPath refused) end = ⊥
+EndsSo NetFault end = ⊥
 
--- what a sink took grew by a front of the output
-abbrev pub WroteFront : Option (List ℕ) → Option (List ℕ) → List ℕ → Type 0
-WroteFront before now output = (written : List ℕ) × (more : List ℕ) × (now ≡ behind before written) × (output ≡ written ++ more)
+-- ---- what was written
 
--- The whole output was written for Done and for Feed, and a front of it else.
-abbrev pub WroteSo : Status → Option (List ℕ) → Option (List ℕ) → List ℕ → Type 0
-WroteSo Done before now output = now ≡ behind before output
-WroteSo (Feed number why) before now output = now ≡ behind before output
-WroteSo Usage before now output = WroteFront before now output
-WroteSo Read before now output = WroteFront before now output
-WroteSo Write before now output = WroteFront before now output
-WroteSo NoMemory before now output = WroteFront before now output
+-- These octets were taken, the rest of those told is left, and all that is put out for the octets taken was written.
+pub record WroteTaken (whole : List ℕ → List ℕ) (octets : List ℕ) (now before after : Option (List ℕ)) : Type 0 where
+  pub taken : List ℕ
+  pub rest : List ℕ
+  pub parts : octets ≡ taken ++ rest
+  pub left : now ≡ Some rest
+  pub wrote : after ≡ behind before (whole taken)
 
--- What a status says of a feed of these octets: how it ended; that it was read through Z and no further, for Done; and what was written.
-pub record Answers (status : Status) (octets : List ℕ) (left before now : Option (List ℕ)) : Type 0 where
-  pub ended : EndsSo status (plain.feed_meaning octets).end
-  pub through : status ≡ Done → left ≡ Some (drop (plain.feed_meaning octets).through octets)
-  pub written : WroteSo status before now (plain.whole_output (plain.feed_meaning octets))
+-- The same, but what is put out was written in part.
+pub record WrotePart (stops : List ℕ → List ℕ → Type 0) (octets : List ℕ) (now before after : Option (List ℕ)) : Type 0 where
+  pub taken : List ℕ
+  pub rest : List ℕ
+  pub parts : octets ≡ taken ++ rest
+  pub left : now ≡ Some rest
+  pub written : List ℕ
+  pub wrote : after ≡ behind before written
+  pub part : stops taken written
 
--- the same of records that follow a platform, of which the next has this number, after so many octets
-pub record AnswersFrom (platform : Platform) (number past : ℕ) (status : Status) (octets : List ℕ) (left before now : Option (List ℕ)) : Type 0 where
-  pub ended : EndsSo status (plain.ending platform number past (records_in octets))
-  pub through : status ≡ Done → left ≡ Some (drop (plain.octets_through (plain.formed platform past (records_in octets))) octets)
-  pub written : WroteSo status before now (flat_map out_octets (all_output platform (plain.formed platform past (records_in octets))))
+-- what was written is a front of this output
+pub record WroteFront (output : List ℕ) (before after : Option (List ℕ)) : Type 0 where
+  pub written : List ℕ
+  pub more : List ℕ
+  pub wrote : after ≡ behind before written
+  pub front : output ≡ written ++ more
+
+-- What a status says of what was written, where octets were told: what is left of them, what a sink took before and
+-- after, all that is put out for octets, and what is a part of that which stops within the output of the last record.
+abbrev pub WroteBy : (List ℕ → List ℕ) → (List ℕ → List ℕ → Type 0) → Status → List ℕ → Option (List ℕ) → Option (List ℕ) → Option (List ℕ) → Type 0
+WroteBy whole stops Done octets now before after = after ≡ behind before (whole octets)
+WroteBy whole stops Usage octets now before after = Unit {0}
+WroteBy whole stops (Feed number why) octets now before after = after ≡ behind before (whole octets)
+WroteBy whole stops (Roster number line why) octets now before after = after ≡ behind before (whole octets)
+WroteBy whole stops Read octets now before after = WroteTaken whole octets now before after
+WroteBy whole stops Write octets now before after = WrotePart stops octets now before after
+WroteBy whole stops NoMemory octets now before after = WroteFront (whole octets) before after
+WroteBy whole stops (NoPath refused) octets now before after = ⊥
+WroteBy whole stops NetFault octets now before after = ⊥
+
+abbrev pub output_for : List ℕ → List ℕ
+output_for octets = whole_output (feed_meaning octets)
+
+abbrev pub StopsFor : List ℕ → List ℕ → Type 0
+StopsFor octets written = StopsInLast (feed_meaning octets) written
+
+-- Done, Feed and Roster come after the whole output was written. At Read it was exactly the output of the whole records
+-- that were taken, at Write all but a part of the last one's, and without memory a front of the output.
+abbrev pub WroteSo : Status → List ℕ → Option (List ℕ) → Option (List ℕ) → Option (List ℕ) → Type 0
+WroteSo status octets now before after = WroteBy output_for StopsFor status octets now before after
+
+-- ---- the answers of a run, and of its rest
+
+-- What a status says of a feed of these octets, with what is left of them, and what the sink took before and after.
+pub record Answers (status : Status) (octets : List ℕ) (now before after : Option (List ℕ)) : Type 0 where
+  pub ended : EndsSo status (feed_meaning octets).end
+  pub through : status ≡ Done → now ≡ Some (feed_meaning octets).left
+  pub written : WroteSo status octets now before after
+
+-- the records of octets behind those of a state that are acted on, and what is put out for them
+abbrev pub items_from : Platform → FeedState → List ℕ → List FeedRecord
+items_from platform state octets = read_of platform.roster (feed_of state octets).items
+
+abbrev pub outputs_from : Platform → List FeedRecord → List ℕ
+outputs_from platform items = flat_map out_octets (all_output platform items)
+
+abbrev pub output_from : Platform → FeedState → List ℕ → List ℕ
+output_from platform state octets = outputs_from platform (items_from platform state octets)
+
+-- the output of these records is written in part, and stops within that of the last
+pub record StopsIn (platform : Platform) (items : List FeedRecord) (written : List ℕ) : Type 0 where
+  pub before : List FeedRecord
+  pub last : FeedRecord
+  pub parts : items ≡ before ++ last ∷ []
+  pub part : List ℕ
+  pub more : List ℕ
+  pub wrote : written ≡ outputs_from platform before ++ part
+  pub missing : outputs_from platform items ≡ written ++ more
+  pub less : more ≢ []
+
+abbrev pub StopsFrom : Platform → FeedState → List ℕ → List ℕ → Type 0
+StopsFrom platform state octets written = StopsIn platform (items_from platform state octets) written
+
+-- what a status says of octets that follow the records of a state, which brought the platform where it is
+pub record AnswersFrom (platform : Platform) (state : FeedState) (status : Status) (octets : List ℕ) (now before after : Option (List ℕ)) : Type 0 where
+  pub ended : EndsSo status (end_of platform.roster (state.number + 1) (feed_of state octets).items (feed_of state octets).fault)
+  pub through : status ≡ Done → now ≡ Some (feed_of state octets).left
+  pub written : WroteBy (output_from platform state) (StopsFrom platform state) status octets now before after
+
+-- The feed hasn't ended, and no connection has a number above the greatest that the reader gave.
+pub record GoesWith (platform : Platform) (state : FeedState) : Type 0 where
+  pub going : state.closed ≡ false
+  pub numbers : AllByRecursion (λ entry. entry.0 ≤ state.last) platform.connections
 
 -- After the first record, a roster: what is answered from there is the answer for all.
-pub record Begins (octets : List ℕ) (platform : Platform) (past : ℕ) (left : Option (List ℕ)) : Type 0 where
+pub record Begins (octets : List ℕ) (platform : Platform) (state : FeedState) (now : Option (List ℕ)) : Type 0 where
   pub rest : List ℕ
-  pub told : left ≡ Some rest
-  pub answers : (status : Status) (left before now : Option (List ℕ)) → AnswersFrom platform 2 past status rest left before now → Answers status octets left before now
+  pub told : now ≡ Some rest
+  pub answers : (status : Status) (left before after : Option (List ℕ)) → AnswersFrom platform state status rest left before after → Answers status octets left before after
 
 -- After one more record: what is answered from there is the answer from before it.
-pub record GoesOn (old : Platform) (reader : Reader) (octets : List ℕ) (before : Option (List ℕ)) (new : Platform) (next : Reader) (left between : Option (List ℕ)) : Type 0 where
+pub record GoesOn (old : Platform) (state : FeedState) (octets : List ℕ) (before : Option (List ℕ)) (new : Platform) (next : FeedState) (now between : Option (List ℕ)) : Type 0 where
   pub rest : List ℕ
-  pub told : left ≡ Some rest
-  pub answers : (status : Status) (left now : Option (List ℕ)) → AnswersFrom new (next.number + 1) next.octets status rest left between now
-      → AnswersFrom old (reader.number + 1) reader.octets status octets left before now
+  pub told : now ≡ Some rest
+  pub answers : (status : Status) (left after : Option (List ℕ)) → AnswersFrom new next status rest left between after → AnswersFrom old state status octets left before after

@@ -1,5 +1,4 @@
-pub mod Answers
 pub mod Records
-pub mod Rosters
 pub mod State
-pub mod Updates
+pub mod Turns
+pub mod Answers

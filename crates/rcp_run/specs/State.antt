@@ -1,26 +1,28 @@
 -- What the engine's lists mean: the platform of the definitions, and what is always so of them.
-use Rattle.std.specs.Prelude.{◌≡◌, ℕ, ◌+◌, ◌*◌, ◌^◌, ◌<◌, ◌≤◌, Bool, true, false, nat_lt, not, ◌==◌, List, [], ◌∷◌, ◌++◌, length, map, filter, Option, Some, None, if◌then◌else◌}
-use Rattle.std.specs.List.{list_any, AllByRecursion}
-use Rattle.std.specs.Int.{w16}
+use Rattle.std.specs.Prelude.{◌≡◌, ℕ, ◌+◌, ◌*◌, ◌^◌, ◌<◌, ◌≤◌, Bool, true, false, All, nat_lt, List, [], ◌∷◌, ◌++◌, length, map, Option, Some, None, Vec, if◌then◌else◌}
+use Rattle.std.specs.Global.{Global}
+use Rattle.std.specs.List.{flat_map, AllByRecursion}
 use Rattle.rcp_base.specs.IpPrefix.{IpPrefix}
+use Rattle.rcp_base.specs.Feed.{OutRecord}
 use Rattle.rcp_base.specs.declared.names.Member.{Member}
-use Rattle.rcp_model.specs.Maps.{get_at, set_at, same_prefix, is_before, is_among}
-use Rattle.rcp_model.specs.Attributes.{canonical_octets, attributes_in}
-use Rattle.rcp_model.specs.Routes.{RouteFields, route_in}
+use Rattle.rcp_model.specs.Rosters.{RosterOf}
+use Rattle.rcp_model.specs.Maps.{get_at, set_at, same_prefix, is_before}
 use Rattle.rcp_model.specs.LinkState.{same_number}
 use Rattle.rcp_model.specs.Edges.{rising_edges}
 use Rattle.rcp_model.specs.declared.event.Edge.{Edge}
 use Rattle.rcp_model.specs.Costs.{Walk}
-use Rattle.rcp_model.specs.Control.{Place, Announcements, Server, Change, same_place, same_octets, router_at, offer, after_all}
-use Rattle.rcp_model.specs.Updates.{Table, prefixes_in}
-use Rattle.rcp_model.specs.Meaning.{Platform, Established, domain_of, OutRecord, cell_update, messages_to}
-use Rattle.rcp_model.specs.Meaning as meaning
-use Rattle.rcp_run.specs.declared.roster.Roster.{Roster}
-use Rattle.rcp_run.specs.Rosters.{roster_in}
+use Rattle.rcp_model.specs.Control.{Place, Announcements, same_place, same_octets, router_at, offer}
+use Rattle.rcp_model.specs.Control as control
+use Rattle.rcp_model.specs.Updates.{Table}
+use Rattle.rcp_model.specs.Sessions.{SessionState}
+use Rattle.rcp_model.specs.Telling.{AreOctets, IsRouteOf}
+use Rattle.rcp_model.specs.Meaning.{Connections, Platform, domain_of, slot_in, cell_update, messages_to}
 use Rattle.rcp_run.specs.declared.announcements.Announcement.{Announcement}
 use Rattle.rcp_run.specs.declared.table.Cell.{Cell}
 use Rattle.rcp_run.specs.declared.costs.Reached.{Reached}
-use Rattle.rcp_run.specs.declared.engine.Begun.{Begun}
+use Rattle.rcp_run.specs.declared.engine.events.Router.{Router}
+use Rattle.rcp_run.specs.declared.engine.events.Server.{Server}
+use Rattle.rcp_run.specs.declared.engine.told.Told.{Told}
 use Rattle.rcp_run.specs.declared.engine.Connection.{Connection}
 use Rattle.rcp_run.specs.declared.engine.Engine.{Engine}
 
@@ -38,88 +40,78 @@ cell_in cell = (cell.prefix, cell.attrs)
 abbrev pub table_in : List Cell → Table
 table_in cells = map cell_in cells
 
--- a router's session: the number of its connection, its slot, and what it was told
-pub record Session : Type 0 where
-  pub number : ℕ
-  pub slot : ℕ
-  pub table : Table
+abbrev pub router_in : Router → ℕ × Table
+router_in router = (router.slot, table_in router.table.items)
 
-abbrev pub session_in : Connection → Session
-session_in c = record { number = c.number; slot = c.slot; table = table_in c.table.items }
+abbrev pub tables_in : List Router → List (ℕ × Table)
+tables_in routers = map router_in routers
 
-abbrev pub sessions_in : List Connection → List Session
-sessions_in connections = map session_in connections
-
-abbrev pub connection_of : Session → meaning.Connection
-connection_of s = record { number = s.number; phase = Established s.slot }
-
-abbrev pub seat_of : Session → ℕ × Table
-seat_of s = (s.slot, s.table)
-
--- the number and the slot of a connection that was begun
-abbrev pub begun_in : Begun → ℕ × ℕ
-begun_in b = (b.number, b.slot)
-
-abbrev pub server_in : Engine → Server
-server_in e = record {
-  tables = map seat_of (sessions_in e.connections.items);
-  announcements = announcements_in e.announcements.items;
-  touched = e.touched.items;
-  edges = rising_edges e.roster.links.items;
+abbrev pub server_in : List Edge → Server → control.Server
+server_in links server = record {
+  tables = tables_in server.tables.items;
+  announcements = announcements_in server.announcements.items;
+  touched = server.touched.items;
+  edges = rising_edges links;
 }
+
+abbrev pub connection_in : Connection → ℕ × SessionState
+connection_in c = (c.number, c.session.state)
+
+abbrev pub connections_in : List Connection → Connections
+connections_in connections = map connection_in connections
 
 abbrev pub platform_in : Engine → Platform
 platform_in e = record {
-  roster = roster_in e.roster;
-  connections = map connection_of (sessions_in e.connections.items);
-  begun = map begun_in e.begun.items;
-  server = server_in e;
-  updates = e.written;
+  roster = e.roster;
+  connections = connections_in e.connections.items;
+  moment = e.moment;
+  server = server_in e.roster.links e.server;
+  updates = e.updates;
 }
 
 -- ---- what is always so
 
 -- a kept route is the one of its octets, which are canonical
-abbrev pub IsKeptRoute : ℕ → RouteFields → Type 0
-IsKeptRoute as_number route = (route ≡ route_in w16 as_number route.attrs) × (canonical_octets (attributes_in route.attrs) ≡ route.attrs)
-
 abbrev pub IsKept : ℕ → Announcement → Type 0
-IsKept as_number a = IsKeptRoute as_number a.route
+IsKept as_number a = IsRouteOf as_number a.route
 
 -- strictly rising
 abbrev pub IsRising : List IpPrefix → Type 0
 IsRising [] = Unit {0}
 IsRising (p ∷ ps) = AllByRecursion (λ q. is_before p q ≡ true) ps × IsRising ps
 
--- no two sessions have one slot
-abbrev pub AreOfSlots : List Session → Type 0
-AreOfSlots [] = Unit {0}
-AreOfSlots (s ∷ sessions) = AllByRecursion (λ (t : Session). (t.slot ≡ s.slot) → ⊥) sessions × AreOfSlots sessions
+pub record IsServer (as_number : ℕ) (server : Server) : Type 0 where
+  pub routes : AllByRecursion (IsKept as_number) server.announcements.items
+  pub rising : IsRising server.touched.items
 
--- a connection was begun for the slot of each session
-abbrev pub AreNamed : List Begun → List Session → Type 0
-AreNamed begun sessions = AllByRecursion (λ (s : Session). list_any (λ (b : Begun). s.slot == b.slot) begun ≡ true) sessions
+-- a session for which there was memory so far, and which keeps octets
+pub record IsWhole (c : Connection) : Type 0 where
+  pub unspent : c.session.spent ≡ false
+  pub kept : AreOctets c.session.state.kept
+
+-- numbers rise
+abbrev pub AreNumbered : List ℕ → Type 0
+AreNumbered [] = Unit {0}
+AreNumbered (n ∷ ns) = AllByRecursion (λ m. n < m) ns × AreNumbered ns
+
+abbrev pub numbers_of : Connections → List ℕ
+numbers_of connections = map (λ entry. entry.0) connections
 
 pub record IsSound (e : Engine) : Type 0 where
-  pub routes : AllByRecursion (IsKept e.roster.as_number) e.announcements.items
-  pub rising : IsRising e.touched.items
-  pub slots : AreOfSlots (sessions_in e.connections.items)
-  pub named : AreNamed e.begun.items (sessions_in e.connections.items)
-  pub counted : e.written < 2 ^ 64
+  pub server : IsServer e.roster.as_number e.server
+  pub numbered : AreNumbered (numbers_of (connections_in e.connections.items))
+  pub sessions : AllByRecursion IsWhole e.connections.items
+  pub counted : e.updates < 2 ^ 64
+
+-- messages of at most 4,096 octets (RFC 4271 section 4.1)
+abbrev pub AreShort : List (Vec ℕ Global) → Type 0
+AreShort messages = All (λ message. length message.items ≤ 4096) messages
+
+-- each record's length has room in its frame
+abbrev pub AreFramed : List OutRecord → Type 0
+AreFramed outs = All (λ out. length out.body < 2 ^ 32) outs
 
 -- ---- parts of the answer
-
--- the platform once a slot has changed its announcements of these prefixes to these octets, or to nothing
-abbrev pub changed_of : Platform → ℕ → Option (List ℕ) → List IpPrefix → Platform
-changed_of p slot octets ps = record p { server = after_all (domain_of p.roster) (map (λ q. Change slot q octets) ps) p.server }
-
--- those that aren't announced in the section
-abbrev pub not_announced : List ℕ → List IpPrefix → List IpPrefix
-not_announced nlri ps = filter (λ p. not (is_among (prefixes_in nlri) p)) ps
-
--- the sessions of other slots
-abbrev pub without_slot : ℕ → List Session → List Session
-without_slot slot sessions = filter (λ s. not (s.slot == slot)) sessions
 
 -- the entry of a router for a prefix
 abbrev pub entry_at : List Announcement → ℕ → IpPrefix → Option Announcement
@@ -141,7 +133,7 @@ cost_to reached (Some router) = cost_in reached router
 abbrev pub costs_in : List Member → List Reached → ℕ → Option ℕ
 costs_in members reached slot = cost_to reached (router_at members slot)
 
--- What a session is told where its slot is offered this at each prefix: its table afterwards, and the UPDATEs for the cells that change.
+-- What a router is told where its slot is offered this at each prefix: its table afterwards, and the UPDATEs for the cells that change.
 abbrev pub table_told : (IpPrefix → Option (List ℕ)) → List IpPrefix → Table → Table
 table_told offers [] table = table
 table_told offers (p ∷ ps) table = table_told offers ps (set_at same_prefix p (offers p) table)
@@ -153,15 +145,34 @@ abbrev pub updates_told : (IpPrefix → Option (List ℕ)) → List IpPrefix →
 updates_told offers [] table = []
 updates_told offers (p ∷ ps) table = cell_told p (offers p) table ++ updates_told offers ps (set_at same_prefix p (offers p) table)
 
--- what each slot is offered, and so what becomes of a session, and the messages of it
-abbrev pub offers_to : Roster → List Announcement → ℕ → IpPrefix → Option (List ℕ)
-offers_to roster entries slot p = offer (domain_of (roster_in roster)) (announcements_in entries) (rising_edges roster.links.items) slot p
+-- what each slot is offered, and so what becomes of the tables, and the messages of each
+abbrev pub offers_to : RosterOf → List Announcement → ℕ → IpPrefix → Option (List ℕ)
+offers_to roster entries slot p = offer (domain_of roster) (announcements_in entries) (rising_edges roster.links) slot p
 
-abbrev pub session_told : (ℕ → IpPrefix → Option (List ℕ)) → List IpPrefix → Session → Session
-session_told offers ps s = record { number = s.number; slot = s.slot; table = table_told (offers s.slot) ps s.table }
+abbrev pub tables_told : (ℕ → IpPrefix → Option (List ℕ)) → List IpPrefix → List (ℕ × Table) → List (ℕ × Table)
+tables_told offers ps tables = map (λ entry. (entry.0, table_told (offers entry.0) ps entry.1)) tables
 
-abbrev pub messages_told : (ℕ → IpPrefix → Option (List ℕ)) → List IpPrefix → Session → List OutRecord
-messages_told offers ps s = messages_to s.number (updates_told (offers s.slot) ps s.table)
+abbrev pub messages_told : (ℕ → IpPrefix → Option (List ℕ)) → List IpPrefix → List (ℕ × Table) → List (ℕ × List (List ℕ))
+messages_told offers ps tables = map (λ entry. (entry.0, updates_told (offers entry.0) ps entry.1)) tables
+
+-- messages by their octets, and those of each slot
+abbrev pub octets_in : List (Vec ℕ Global) → List (List ℕ)
+octets_in messages = map (λ message. message.items) messages
+
+abbrev pub told_in : List Told → List (ℕ × List (List ℕ))
+told_in told = map (λ router. (router.slot, octets_in router.messages.items)) told
+
+abbrev pub messages_of : Option (List (List ℕ)) → List (List ℕ)
+messages_of None = []
+messages_of (Some messages) = messages
+
+-- the records of what each connection is told
+abbrev pub told_to : List (ℕ × List (List ℕ)) → Option ℕ → List (List ℕ)
+told_to told None = []
+told_to told (Some slot) = messages_of (get_at same_number slot told)
+
+abbrev pub records_told : List (ℕ × List (List ℕ)) → Connections → List OutRecord
+records_told told connections = flat_map (λ entry. messages_to entry.0 (told_to told (slot_in entry.1.phase))) connections
 
 -- whether a cost is lower than the one before, if any
 abbrev pub is_lower : ℕ → Option ℕ → Bool
@@ -189,7 +200,3 @@ AreOfWalks edges root costs =
 -- no edge leads to a lower cost
 abbrev pub IsSettledAt : List (ℕ × ℕ) → Edge → Type 0
 IsSettledAt costs edge = (n : ℕ) → get_at same_number edge.from costs ≡ Some n → is_lower (n + edge.cost) (get_at same_number edge.to costs) ≡ false
-
-abbrev pub all_told : (ℕ → IpPrefix → Option (List ℕ)) → List IpPrefix → List Session → List OutRecord
-all_told offers ps [] = []
-all_told offers ps (s ∷ sessions) = messages_told offers ps s ++ all_told offers ps sessions

@@ -4,7 +4,8 @@ ghost use Rattle.std.specs.List.{position, AllByRecursion};
 ghost use Rattle.rcp_model.specs.Maps.{put_at, without};
 ghost use Rattle.rcp_model.specs.Control.{same_place, same_octets, announced_by};
 ghost use Rattle.rcp_model.specs.Routes.{is_usable};
-ghost use Rattle.rcp_run.specs.State.{announcements_in, entry_in, entry_at, IsKept, IsKeptRoute};
+ghost use Rattle.rcp_model.specs.Telling.{IsRouteOf};
+ghost use Rattle.rcp_run.specs.State.{announcements_in, entry_in, entry_at, IsKept};
 
 use rcp_base::{NoMemory, Prefix, Slot};
 use rcp_model::Route;
@@ -47,7 +48,7 @@ pub fn announce(
         ≡ put_at same_place (slot, prefix) route.attrs (announcements_in announcements.old.items)) }
     ensures changed { IfOk result (λ changed. changed
         ≡ not (same_octets (announced_by (announcements_in announcements.old.items) slot prefix) (Some route.attrs))) }
-    ensures kept { (as_number : ℕ) → AllByRecursion (IsKept as_number) announcements.old.items → IsKeptRoute as_number route
+    ensures kept { (as_number : ℕ) → AllByRecursion (IsKept as_number) announcements.old.items → IsRouteOf as_number route
         → OnOk result (AllByRecursion (IsKept as_number) announcements.new.items) }
 {
     match place_of(announcements, slot, prefix) {

@@ -14,14 +14,13 @@ ghost use Rattle.rcp_model.specs.Edges.{rising_edges};
 ghost use Rattle.rcp_model.specs.Decision.{unbeaten, has_higher_preference, has_shorter_path, has_lower_origin, has_lower_exit, tied, is_of, is_nearer, nearest, contender};
 ghost use Rattle.rcp_model.specs.Control.{Domain, announced_by, announcement_contender, candidates_from, slot_cost, unless_own};
 ghost use Rattle.rcp_model.specs.Meaning.{domain_of};
-ghost use Rattle.rcp_run.specs.Rosters.{roster_in};
 ghost use Rattle.rcp_run.specs.State.{announcements_in, offers_to, cost_in, costs_in, IsKept};
 
 use crate::announcements::{Announcement, announcement_of, is_usable};
 use crate::costs::{Reached, cost_to};
-use crate::roster::Roster;
 use rcp_base::{Addr, Member, NoMemory, Prefix, Slot};
 use rcp_model::Route;
+use roster::Roster;
 use std::alloc::Global;
 use std::marker::Model;
 
@@ -74,15 +73,15 @@ pub fn offer<'a>(
     prefix: Prefix,
 ) -> Result<Option<&'a [u8]>, NoMemory>
     requires kept { AllByRecursion (IsKept roster.now.as_number) announcements.now }
-    requires costs { (to : ℕ) → costs_in roster.now.members.items reached.now to
-        ≡ slot_cost (rising_edges roster.now.links.items) roster.now.members.items slot to }
+    requires costs { (to : ℕ) → costs_in roster.now.members reached.now to
+        ≡ slot_cost (rising_edges roster.now.links) roster.now.members slot to }
     ensures offered { IfOk result (λ offered. option_map (λ octets. octets.now) offered
         ≡ offers_to roster.now announcements.now slot prefix) }
     ensures short { IfOk result (λ offered. IfSome offered (λ octets. length octets.now ≤ 4068)) }
 {
     let list = candidates(alloc, roster, announcements, reached, prefix)?;
     let list = tied(alloc, &list)?;
-    let chosen = choice(&roster.members, reached, slot, &list);
+    let chosen = choice(roster, reached, slot, &list);
     Ok(octets_unless_own(announcements, slot, chosen, prefix))
 }
 
@@ -126,13 +125,14 @@ fn candidates(
     prefix: Prefix,
 ) -> Result<Vec<Candidate>, NoMemory>
     requires { AllByRecursion (IsKept roster.now.as_number) announcements.now }
-    ensures { IfOk result (λ list. list.items ≡ candidates_from (domain_of (roster_in roster.now))
-        (announcements_in announcements.now) prefix (costs_in roster.now.members.items reached.now) 0 roster.now.members.items) }
+    ensures { IfOk result (λ list. list.items ≡ candidates_from (domain_of roster.now)
+        (announcements_in announcements.now) prefix (costs_in roster.now.members reached.now) 0 roster.now.members) }
 {
     let mut list = Vec::new(alloc);
-    for (place, member) in roster.members.iter().enumerate() {
-        let slot = Slot(place as u16);
-        if let Some(candidate) = candidate_at(member, slot, announcements, reached, prefix) {
+    for place in 0..roster.len() {
+        let slot = Slot(place);
+        let member = roster.member(slot);
+        if let Some(candidate) = candidate_at(&member, slot, announcements, reached, prefix) {
             list.push(candidate)?;
         }
     }
@@ -279,13 +279,13 @@ fn has_lower_med(one: &Candidate, other: &Candidate) -> bool
 }
 
 /// The router itself where it is among the candidates, else the nearest of them.
-fn choice(members: &[Member], reached: &[Reached], slot: Slot, list: &[Candidate]) -> Option<Slot>
-    ensures { result ≡ (if list_any (is_of slot) list.now then Some slot else nearest (costs_in members.now reached.now) list.now) }
+fn choice(roster: &Roster, reached: &[Reached], slot: Slot, list: &[Candidate]) -> Option<Slot>
+    ensures { result ≡ (if list_any (is_of slot) list.now then Some slot else nearest (costs_in roster.now.members reached.now) list.now) }
 {
     if is_among(slot, list) {
         return Some(slot);
     }
-    nearest(members, reached, list)
+    nearest(roster, reached, list)
 }
 
 fn is_among(slot: Slot, list: &[Candidate]) -> bool
@@ -300,39 +300,39 @@ fn is_of(slot: Slot, one: &Candidate) -> bool
     one.slot == slot
 }
 
-fn nearest(members: &[Member], reached: &[Reached], list: &[Candidate]) -> Option<Slot>
-    ensures { result ≡ nearest (costs_in members.now reached.now) list.now }
+fn nearest(roster: &Roster, reached: &[Reached], list: &[Candidate]) -> Option<Slot>
+    ensures { result ≡ nearest (costs_in roster.now.members reached.now) list.now }
 {
     let mut best: Option<Candidate> = None;
     for one in list {
-        best = Some(nearer_of(members, reached, best, *one));
+        best = Some(nearer_of(roster, reached, best, *one));
     }
     Some(best?.slot)
 }
 
 /// The nearer of the best so far and a further one, which has to be nearer to take its place.
 fn nearer_of(
-    members: &[Member],
+    roster: &Roster,
     reached: &[Reached],
     best: Option<Candidate>,
     one: Candidate,
 ) -> Candidate
     ensures { MatchOption best (result ≡ one) (λ best. result
-        ≡ (if is_nearer (costs_in members.now reached.now) one best then one else best)) }
+        ≡ (if is_nearer (costs_in roster.now.members reached.now) one best then one else best)) }
 {
     match best {
-        Some(best) if !is_nearer(members, reached, &one, &best) => best,
+        Some(best) if !is_nearer(roster, reached, &one, &best) => best,
         _ => one,
     }
 }
 
 /// Nearer by cost, or as near and of a lower BGP Identifier. A router that isn't reached comes last.
-fn is_nearer(members: &[Member], reached: &[Reached], one: &Candidate, other: &Candidate) -> bool
-    ensures { result ≡ is_nearer (costs_in members.now reached.now) one.now other.now }
+fn is_nearer(roster: &Roster, reached: &[Reached], one: &Candidate, other: &Candidate) -> bool
+    ensures { result ≡ is_nearer (costs_in roster.now.members reached.now) one.now other.now }
 {
     match (
-        cost_at(members, reached, one.slot),
-        cost_at(members, reached, other.slot),
+        cost_at(roster, reached, one.slot),
+        cost_at(roster, reached, other.slot),
     ) {
         (Some(cost), Some(other_cost)) => {
             cost < other_cost || cost == other_cost && one.bgp_id < other.bgp_id
@@ -343,11 +343,13 @@ fn is_nearer(members: &[Member], reached: &[Reached], one: &Candidate, other: &C
 }
 
 /// The cost to the router at the slot.
-fn cost_at(members: &[Member], reached: &[Reached], slot: Slot) -> Option<u128>
-    ensures { result ≡ costs_in members.now reached.now slot }
+fn cost_at(roster: &Roster, reached: &[Reached], slot: Slot) -> Option<u128>
+    ensures { result ≡ costs_in roster.now.members reached.now slot }
 {
-    let member = members.get(usize::from(slot.0))?;
-    cost_to(reached, member.router)
+    if slot.0 >= roster.len() {
+        return None;
+    }
+    cost_to(reached, roster.member(slot).router)
 }
 
 #[cfg(test)]

@@ -1,14 +1,17 @@
-// The records that are written, and their octets: a kind, a source and the body behind its length.
-ghost use Rattle.std.specs.Prelude.{◌≡◌, ◌^◌, ◌<◌, ◌≤◌, ◌++◌, ◌∷◌, length, OnOk, Some, None};
-ghost use Rattle.std.specs.Int.{w32, w64, to_be_bytes};
-ghost use Rattle.std.specs.List.{flat_map};
-ghost use Rattle.rcp_model.specs.Feed.{OCTETS, SUMMARY as SUMMARY_KIND};
-ghost use Rattle.rcp_model.specs.Meaning.{out_octets, cell_update, fault_output, ended};
-ghost use Rattle.rcp_run.specs.Updates.{IsTold, fault_of};
+//! The records that are put out.
 
-use crate::update::Found;
-use bgp_msg::{MOST_OCTETS, write_notification, write_update};
+ghost use Rattle.std.specs.Prelude.{◌≡◌, ◌≤◌, ◌++◌, ◌∷◌, [], length, option_map, OnOk, IfOk, Some, None};
+ghost use Rattle.std.specs.Int.{w64, to_be_bytes};
+ghost use Rattle.rcp_model.specs.Sessions.{Ending};
+ghost use Rattle.rcp_model.specs.Meaning.{MESSAGE as MESSAGE_KIND, SUMMARY as SUMMARY_KIND, cell_update, messages_to, end_record, reason_number};
+ghost use Rattle.session_core.specs.Shown.{reason_of, ending_of};
+ghost use Rattle.rcp_run.specs.State.{AreFramed, AreShort, octets_in};
+
+use bgp_msg::{MOST_OCTETS, write_update};
+use feed_format::Out;
 use rcp_base::{NoMemory, Prefix};
+use session_core::{Closed, Why};
+use std::alloc::Global;
 
 // The kinds of the records: a message to a router, the end of a connection, and a summary.
 const MESSAGE: u8 = b'B';
@@ -17,110 +20,131 @@ const CLOSED: u8 = b'X';
 
 const SUMMARY: u8 = b'S';
 
-// The octets of the end of a connection, and of a summary.
-const END_LENGTH: u32 = 3;
-
-const SUMMARY_LENGTH: u32 = 24;
-
-// Why a connection was closed: by a fault in what it sent.
-const BY_FAULT: u8 = 1;
-
-/// What a summary says.
-#[derive(Clone, Copy, Debug)]
-pub struct Summary {
-    /// The routers that are connected.
-    pub routers: u64,
-    /// The prefixes that some router announces.
-    pub prefixes: u64,
-    /// The UPDATEs that were written so far.
-    pub updates: u64,
-}
-
-/// Adds the record of an UPDATE that announces one prefix to the connection.
-pub fn add_announcement(
-    out: &mut Vec<u8>,
-    connection: u32,
-    attrs: &[u8],
-    prefix: Prefix,
-) -> Result<(), NoMemory>
+/// The UPDATE that announces one prefix.
+pub fn announcement(alloc: Global, attrs: &[u8], prefix: Prefix) -> Result<Vec<u8>, NoMemory>
     requires { length attrs.now ≤ 4068 }
-    ensures { OnOk result (out.new.items
-        ≡ out.old.items ++ out_octets (record { kind = OCTETS; connection = connection; body = cell_update prefix (Some attrs.now) })) }
+    ensures octets { IfOk result (λ message. message.items ≡ cell_update prefix (Some attrs.now)) }
+    ensures short { IfOk result (λ message. length message.items ≤ 4096) }
 {
     let mut message = [0; MOST_OCTETS];
     let count = write_update(&[], attrs, &[prefix], &mut message).unwrap();
-    add_message(out, connection, &message[..count])
+    Ok(Vec::from_slice(alloc, &message[..count])?)
 }
 
-/// Adds the record of an UPDATE that withdraws one prefix from the connection.
-pub fn add_withdrawal(out: &mut Vec<u8>, connection: u32, prefix: Prefix) -> Result<(), NoMemory>
-    ensures { OnOk result (out.new.items
-        ≡ out.old.items ++ out_octets (record { kind = OCTETS; connection = connection; body = cell_update prefix None })) }
+/// The UPDATE that withdraws one prefix.
+pub fn withdrawal(alloc: Global, prefix: Prefix) -> Result<Vec<u8>, NoMemory>
+    ensures octets { IfOk result (λ message. message.items ≡ cell_update prefix None) }
+    ensures short { IfOk result (λ message. length message.items ≤ 4096) }
 {
     let mut message = [0; MOST_OCTETS];
     let count = write_update(&[prefix], &[], &[], &mut message).unwrap();
-    add_message(out, connection, &message[..count])
+    Ok(Vec::from_slice(alloc, &message[..count])?)
 }
 
-/// Adds the records of a fault in what a connection sent: its NOTIFICATION (RFC 4271 section 4.5), and the end of the
-/// connection.
-pub fn add_fault(out: &mut Vec<u8>, connection: u32, found: &Found<'_>) -> Result<(), NoMemory>
-    requires { IsTold found.now }
-    ensures { OnOk result (out.new.items ≡ out.old.items ++ flat_map out_octets (fault_output connection (Some (fault_of found.now)))) }
-{
-    let mut message = [0; MOST_OCTETS];
-    let count = write_notification(&found.fault, found.octets, &mut message);
-    add_message(out, connection, &message[..count])?;
-    add_end(out, connection, BY_FAULT, found.fault.code, found.fault.sub)?;
-    Ok(())
-}
-
-/// Adds the record of the end of a connection.
-fn add_end(
-    out: &mut Vec<u8>,
+/// Adds messages to a connection.
+pub fn add_messages(
+    out: &mut Vec<Out>,
     connection: u32,
-    reason: u8,
-    code: u8,
-    sub: u8,
+    messages: Vec<Vec<u8>>,
 ) -> Result<(), NoMemory>
-    ensures { OnOk result (out.new.items ≡ out.old.items ++ out_octets (ended connection reason code sub)) }
+    requires framed { AreFramed out.old.items }
+    requires short { AreShort messages.items }
+    ensures records { OnOk result (out.new.items ≡ out.old.items ++ messages_to connection (octets_in messages.items)) }
+    ensures framed { OnOk result (AreFramed out.new.items) }
 {
-    add_header(out, CLOSED, connection, END_LENGTH)?;
-    out.extend_from_slice(&[reason, code, sub])?;
+    for message in messages {
+        add_message(out, connection, message)?;
+    }
     Ok(())
 }
 
-/// Adds the record of a summary.
-pub fn add_summary(out: &mut Vec<u8>, summary: Summary) -> Result<(), NoMemory>
-    ensures { OnOk result (out.new.items ≡ out.old.items ++ out_octets (record {
+/// Adds a message to a connection.
+pub fn add_message(out: &mut Vec<Out>, connection: u32, message: Vec<u8>) -> Result<(), NoMemory>
+    requires framed { AreFramed out.old.items }
+    requires short { length message.items ≤ 4096 }
+    ensures records { OnOk result (out.new.items
+        ≡ out.old.items ++ record { kind = MESSAGE_KIND; connection = connection; body = message.items } ∷ []) }
+    ensures framed { OnOk result (AreFramed out.new.items) }
+{
+    out.push(Out {
+        kind: MESSAGE,
+        connection,
+        body: message,
+    })?;
+    Ok(())
+}
+
+/// Adds the end of a connection where it ended, with its reason and the code and subcode of the NOTIFICATION.
+pub fn add_end(
+    alloc: Global,
+    out: &mut Vec<Out>,
+    connection: u32,
+    closed: Option<Closed>,
+) -> Result<(), NoMemory>
+    requires { AreFramed out.old.items }
+    ensures records { OnOk result (out.new.items ≡ out.old.items ++ end_record connection (option_map ending_of closed)) }
+    ensures framed { OnOk result (AreFramed out.new.items) }
+{
+    let Some(closed) = closed else {
+        return Ok(());
+    };
+    let body = Vec::from_slice(alloc, &[reason_number(closed.why), closed.code, closed.sub])?;
+    out.push(Out {
+        kind: CLOSED,
+        connection,
+        body,
+    })?;
+    Ok(())
+}
+
+fn reason_number(why: Why) -> u8
+    ensures { result ≡ reason_number (reason_of why) }
+{
+    match why {
+        Why::Fault => 1,
+        Why::Received => 2,
+        Why::End => 3,
+        Why::SeatOut => 4,
+    }
+}
+
+/// Adds a summary: how many routers are connected, how many prefixes some router announces, and how many UPDATEs were put
+/// out so far.
+pub fn add_summary(
+    alloc: Global,
+    out: &mut Vec<Out>,
+    routers: u64,
+    prefixes: u64,
+    updates: u64,
+) -> Result<(), NoMemory>
+    requires { AreFramed out.old.items }
+    ensures records { OnOk result (out.new.items ≡ out.old.items ++ record {
       kind = SUMMARY_KIND;
       connection = 0;
-      body = to_be_bytes w64 summary.routers ++ to_be_bytes w64 summary.prefixes ++ to_be_bytes w64 summary.updates;
-    })) }
+      body = to_be_bytes w64 routers ++ to_be_bytes w64 prefixes ++ to_be_bytes w64 updates;
+    } ∷ []) }
+    ensures framed { OnOk result (AreFramed out.new.items) }
 {
-    add_header(out, SUMMARY, 0, SUMMARY_LENGTH)?;
-    out.extend_from_slice(&summary.routers.to_be_bytes())?;
-    out.extend_from_slice(&summary.prefixes.to_be_bytes())?;
-    out.extend_from_slice(&summary.updates.to_be_bytes())?;
+    let body = summary_body(alloc, routers, prefixes, updates)?;
+    out.push(Out {
+        kind: SUMMARY,
+        connection: 0,
+        body,
+    })?;
     Ok(())
 }
 
-fn add_message(out: &mut Vec<u8>, connection: u32, message: &[u8]) -> Result<(), NoMemory>
-    requires { length message.now < 2 ^ 32 }
-    ensures { OnOk result (out.new.items
-        ≡ out.old.items ++ out_octets (record { kind = OCTETS; connection = connection; body = message.now })) }
+fn summary_body(
+    alloc: Global,
+    routers: u64,
+    prefixes: u64,
+    updates: u64,
+) -> Result<Vec<u8>, NoMemory>
+    ensures { IfOk result (λ body. body.items ≡ to_be_bytes w64 routers ++ to_be_bytes w64 prefixes ++ to_be_bytes w64 updates) }
 {
-    add_header(out, MESSAGE, connection, message.len() as u32)?;
-    out.extend_from_slice(message)?;
-    Ok(())
-}
-
-/// Adds what stands in front of a record's body.
-fn add_header(out: &mut Vec<u8>, kind: u8, source: u32, count: u32) -> Result<(), NoMemory>
-    ensures { OnOk result (out.new.items ≡ out.old.items ++ (kind ∷ to_be_bytes w32 source ++ to_be_bytes w32 count)) }
-{
-    out.push(kind)?;
-    out.extend_from_slice(&source.to_be_bytes())?;
-    out.extend_from_slice(&count.to_be_bytes())?;
-    Ok(())
+    let mut body = Vec::new(alloc);
+    body.extend_from_slice(&routers.to_be_bytes())?;
+    body.extend_from_slice(&prefixes.to_be_bytes())?;
+    body.extend_from_slice(&updates.to_be_bytes())?;
+    Ok(body)
 }

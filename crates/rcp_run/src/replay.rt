@@ -1,17 +1,19 @@
-// The run of a program, from its words to its status.
-ghost use Rattle.std.specs.Prelude.{◌≡◌, ◌≢◌, ◌↔◌, ◌⊎◌, ◌+◌, ◌<◌, ℕ, List, [], ◌∷◌, ◌++◌, Some, drop, map, codes, IfSome, IfNone, IfErr, IfOk, OnOk, IsTrue};
-ghost use Rattle.std.specs.List.{All};
+//! The run of a program, from its words to its status.
+
+ghost use Rattle.std.specs.Prelude.{◌≡◌, ◌≢◌, ◌↔◌, ◌⊎◌, ◌+◌, ◌^◌, ◌<◌, false, ℕ, List, [], ◌∷◌, Some, length, map, codes, All, Err, IfSome, IfNone, IfErr, IfOk, OnOk, OnErr, IsTrue};
+ghost use Rattle.std.specs.List.{flat_map};
 ghost use Rattle.outside.specs.Told.{Rose, NeverFalls, behind};
-ghost use Rattle.rcp_model.specs.Plain.{Finished, feed_meaning, whole_output, HeadlineWritten};
-ghost use Rattle.rcp_run.specs.Answers.{HasCause, Answers, AnswersFrom, Begins, GoesOn, EndsSo, WroteFront};
+ghost use Rattle.rcp_base.specs.Feed.{before_feeds, is_finish, out_octets};
+ghost use Rattle.feed_format.specs.Writing.{WritesLess};
+ghost use Rattle.rcp_model.specs.Telling.{AreOctets};
+ghost use Rattle.rcp_model.specs.WholeFeed.{Finished, feed_meaning, HeadlineWritten};
+ghost use Rattle.rcp_run.specs.Answers.{status_of, HasCause, EndsSo, WroteSo, Answers, AnswersFrom, GoesWith, Begins, GoesOn};
 ghost use Rattle.rcp_run.specs.State.{platform_in, IsSound};
 
 use crate::engine::Engine;
-use crate::feed::Reader;
-use crate::refusal::Refusal;
-use crate::roster::read_roster;
-use crate::status::Status;
-use outside::{Sink, Source, write_all};
+use feed_format::{FeedRefusal, Kind, Out, Reader, Status, write_out};
+use outside::{Failed, Sink, Source};
+use roster::RosterRefusal;
 use std::alloc::Global;
 use std::thread::Threads;
 
@@ -35,25 +37,24 @@ pub fn run<R: Threads + Sync, S: Source, K: Sink>(
     ensures read { result ≡ Status.Read → Rose (S.faults source.old) (S.faults source.new) }
     ensures write { result ≡ Status.Write → Rose (K.faults sink.old) (K.faults sink.new) }
 
-    // Done comes only where the feed ended at its Z, and Feed exactly at the first record that isn't of the form.
+    // Done comes only where the feed ended at its Z, Feed exactly at the first faulty record, and Roster at the first
+    // faulty line of the roster.
     ensures ended { (octets : List ℕ) → S.left source.old ≡ Some octets → EndsSo result (feed_meaning octets).end }
 
     // On Done the feed was read through its Z, and no octet after it was taken.
     ensures through { result ≡ Status.Done → (octets : List ℕ) → S.left source.old ≡ Some octets
-        → S.left source.new ≡ Some (drop (feed_meaning octets).through octets) }
+        → S.left source.new ≡ Some (feed_meaning octets).left }
 
-    // On Done the whole output was written, and on every other status a front of it.
-    ensures done { result ≡ Status.Done → (octets : List ℕ) → S.left source.old ≡ Some octets
-        → K.taken sink.new ≡ behind (K.taken sink.old) (whole_output (feed_meaning octets)) }
-    ensures front { (octets : List ℕ) → S.left source.old ≡ Some octets
-        → WroteFront (K.taken sink.old) (K.taken sink.new) (whole_output (feed_meaning octets)) }
+    // What was written is the output of the feed's records, as far as the status says.
+    ensures written { (octets : List ℕ) → S.left source.old ≡ Some octets
+        → WroteSo result octets (S.left source.new) (K.taken sink.old) (K.taken sink.new) }
 
     // The headline: for the records whose output was wholly written, each connected router was sent octets that replay,
     // at each prefix that isn't touched, to exactly what it is offered.
-    ensures headline { (octets written : List ℕ) → S.left source.old ≡ Some octets → All (λ o. o < 256) octets
+    ensures headline { (octets written : List ℕ) → S.left source.old ≡ Some octets → AreOctets octets
         → K.taken sink.new ≡ behind (K.taken sink.old) written → HeadlineWritten (feed_meaning octets) written }
 
-    // A lawful word, a feed of the form up to its Z and no fault of source or sink give Done, or NoMemory.
+    // A lawful word, a feed that ends at its Z and no fault of source or sink give Done, or NoMemory.
     ensures complete { map (λ word. word.now) words.now ≡ codes "replay" ∷ [] → (octets : List ℕ) → S.left source.old ≡ Some octets
         → (feed_meaning octets).end ≡ Finished
         → (Rose (S.faults source.old) (S.faults source.new) → ⊥) → (Rose (K.faults sink.old) (K.faults sink.new) → ⊥)
@@ -82,78 +83,119 @@ fn replay<S: Source, K: Sink>(alloc: Global, source: &mut S, sink: &mut K) -> St
     ensures answer { (octets : List ℕ) → S.left source.old ≡ Some octets
         → Answers result octets (S.left source.new) (K.taken sink.old) (K.taken sink.new) }
 {
-    let mut reader = Reader::new();
+    let mut reader = Reader::new(alloc);
     let mut engine = match begin(alloc, &mut reader, source) {
         Ok(engine) => engine,
         Err(status) => return status,
     };
+    let mut number = 2;
     loop {
-        if let Some(status) = turn(alloc, &mut reader, &mut engine, source, sink) {
+        if let Some(status) = turn(number, &mut reader, &mut engine, source, sink) {
             return status;
         }
+        number += 1;
     }
 }
 
 /// Reads the first record, the roster.
 fn begin<S: Source>(alloc: Global, reader: &mut Reader, source: &mut S) -> Result<Engine, Status>
-    requires { (reader.old.number ≡ 0) × (reader.old.octets ≡ 0) }
+    requires { reader.old ≡ before_feeds }
     ensures sound { IfOk result IsSound }
     ensures number { OnOk result (reader.new.number ≡ 1) }
+    ensures goes_with { IfOk result (λ engine. GoesWith (platform_in engine) reader.new) }
     ensures goes_on { IfOk result (λ engine. (octets : List ℕ) → S.left source.old ≡ Some octets
-        → Begins octets (platform_in engine) reader.new.octets (S.left source.new)) }
+        → Begins octets (platform_in engine) reader.new (S.left source.new)) }
     ensures ends { IfErr result (λ status. (octets : List ℕ) (taken : _) → S.left source.old ≡ Some octets
         → Answers status octets (S.left source.new) taken taken) }
     ensures cause { IfErr result (λ status. (c d : _) → HasCause status (S.faults source.old) (S.faults source.new) c d) }
     ensures never_falls { NeverFalls (S.faults source.old) (S.faults source.new) }
 {
-    let first = match reader.next(alloc, source) {
+    let first = match reader.next(source) {
         Ok(first) => first,
-        Err(status) => return Err(status),
+        Err(refused) => return Err(status_of(refused)),
     };
-    if !first.kind.is_roster() {
-        return Err(reader.bad_body());
-    }
-    match read_roster(alloc, &first.body) {
+    match roster::read(alloc, &first.body) {
         Ok(roster) => Ok(Engine::new(alloc, roster)),
-        Err(Refusal::NotOfForm) => Err(reader.bad_body()),
-        Err(Refusal::Memory) => Err(Status::NoMemory),
+        Err(RosterRefusal::Fault { line, why }) => Err(Status::Roster {
+            number: 1,
+            line,
+            why,
+        }),
+        Err(RosterRefusal::NoMemory) => Err(Status::NoMemory),
     }
 }
 
-/// Reads one record and writes its output. None where the feed goes on.
+/// Reads the record of this number and writes its output. None where the feed goes on.
 fn turn<S: Source, K: Sink>(
-    alloc: Global,
+    number: u64,
     reader: &mut Reader,
     engine: &mut Engine,
     source: &mut S,
     sink: &mut K,
 ) -> Option<Status>
-    requires { IsSound engine.old }
+    requires sound { IsSound engine.old }
+    requires number { number ≡ reader.old.number + 1 }
+    requires goes_with { GoesWith (platform_in engine.old) reader.old }
     ensures sound { IfNone result (IsSound engine.new) }
+    ensures number { IfNone result (reader.new.number ≡ reader.old.number + 1) }
     ensures further { IfNone result (reader.old.octets < reader.new.octets) }
+    ensures goes_with { IfNone result (GoesWith (platform_in engine.new) reader.new) }
     // What is answered for the rest is then the answer for all.
     ensures goes_on { IfNone result ((octets : List ℕ) → S.left source.old ≡ Some octets
         → GoesOn (platform_in engine.old) reader.old octets (K.taken sink.old) (platform_in engine.new) reader.new (S.left source.new) (K.taken sink.new)) }
     ensures ends { IfSome result (λ status. (octets : List ℕ) → S.left source.old ≡ Some octets
-        → AnswersFrom (platform_in engine.old) (reader.old.number + 1) reader.old.octets status octets (S.left source.new) (K.taken sink.old) (K.taken sink.new)) }
+        → AnswersFrom (platform_in engine.old) reader.old status octets (S.left source.new) (K.taken sink.old) (K.taken sink.new)) }
     ensures cause { IfSome result (λ status.
         HasCause status (S.faults source.old) (S.faults source.new) (K.faults sink.old) (K.faults sink.new)) }
     ensures source_never_falls { NeverFalls (S.faults source.old) (S.faults source.new) }
     ensures sink_never_falls { NeverFalls (K.faults sink.old) (K.faults sink.new) }
 {
-    let input = match reader.next(alloc, source) {
-        Ok(input) => input,
-        Err(status) => return Some(status),
+    let item = match reader.next(source) {
+        Ok(item) => item,
+        Err(refused) => return Some(status_of(refused)),
     };
-    if input.kind.is_finish() {
+    if let Some(why) = engine.check(&item) {
+        return Some(Status::Feed { number, why });
+    }
+    if is_finish(item.kind) {
         return Some(Status::Done);
     }
-    match engine.step(alloc, &input) {
-        Ok(output) => match write_all(sink, &output) {
+    match engine.step(&item) {
+        Ok(outs) => match write_outs(&outs, sink) {
             Ok(()) => None,
             Err(_) => Some(Status::Write),
         },
-        Err(Refusal::NotOfForm) => Some(reader.bad_body()),
-        Err(Refusal::Memory) => Some(Status::NoMemory),
+        Err(_) => Some(Status::NoMemory),
+    }
+}
+
+fn is_finish(kind: Kind) -> bool
+    ensures { result ≡ is_finish kind }
+{
+    matches!(kind, Kind::Finish)
+}
+
+/// Writes these records.
+fn write_outs<K: Sink>(outs: &[Out], sink: &mut K) -> Result<(), Failed>
+    requires { All (λ out. length out.body < 2 ^ 32) outs.now }
+    ensures ok { OnOk result (K.taken sink.new ≡ behind (K.taken sink.old) (flat_map out_octets outs.now)) }
+    ensures less { OnErr result (WritesLess (flat_map out_octets outs.now) (K.taken sink.old) (K.taken sink.new)) }
+    ensures cause { OnErr result (Rose (K.faults sink.old) (K.faults sink.new)) }
+    ensures never_falls { NeverFalls (K.faults sink.old) (K.faults sink.new) }
+{
+    for out in outs {
+        write_out(out, sink)?;
+    }
+    Ok(())
+}
+
+/// The status of a run whose next record isn't given.
+fn status_of(refused: FeedRefusal) -> Status
+    ensures { result ≡ status_of refused }
+{
+    match refused {
+        FeedRefusal::Feed { number, why } => Status::Feed { number, why },
+        FeedRefusal::Read => Status::Read,
+        FeedRefusal::NoMemory => Status::NoMemory,
     }
 }

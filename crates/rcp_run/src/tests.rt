@@ -1,6 +1,8 @@
+mod faults;
+mod sessions;
 mod updates;
 
-use crate::{FeedWhy, Status, run};
+use crate::{Status, run};
 use outside::{MemSink, MemSource, Source};
 use std::alloc::{AllocError, Global};
 use std::test::Fail;
@@ -41,6 +43,16 @@ fn add(feed: &mut Vec<u8>, kind: u8, source: u32, body: &[u8]) -> Result<(), Fai
     Ok(())
 }
 
+// A message of a type with this body (RFC 4271 section 4.1).
+fn message(alloc: Global, kind: u8, body: &[u8]) -> Result<Vec<u8>, Fail> {
+    let mut message = vec![in alloc; 0xff; 16]?;
+    let count = u16::try_from(body.len())?;
+    message.extend_from_slice(&count.saturating_add(19).to_be_bytes())?;
+    message.push(kind)?;
+    message.extend_from_slice(body)?;
+    Ok(message)
+}
+
 fn add_summary(out: &mut Vec<u8>, routers: u64, prefixes: u64, updates: u64) -> Result<(), Fail> {
     out.extend_from_slice(&[b'S', 0, 0, 0, 0, 0, 0, 0, 24])?;
     out.extend_from_slice(&routers.to_be_bytes())?;
@@ -49,10 +61,16 @@ fn add_summary(out: &mut Vec<u8>, routers: u64, prefixes: u64, updates: u64) -> 
     Ok(())
 }
 
-// A feed in which A, B and C connect.
-fn connected(alloc: Global) -> Result<Vec<u8>, Fail> {
+// A feed of the roster alone.
+fn begun(alloc: Global) -> Result<Vec<u8>, Fail> {
     let mut feed = Vec::new(alloc);
     add(&mut feed, b'C', 0, ROSTER.as_bytes())?;
+    Ok(feed)
+}
+
+// A feed in which A, B and C connect.
+fn connected(alloc: Global) -> Result<Vec<u8>, Fail> {
+    let mut feed = begun(alloc)?;
     add(&mut feed, b'E', 1, &[10, 0, 0, 1])?;
     add(&mut feed, b'E', 2, &[10, 0, 0, 2])?;
     add(&mut feed, b'E', 3, &[10, 0, 0, 3])?;
@@ -102,8 +120,7 @@ fn the_lower_identifier_decides_between_equal_costs(rt: HostRuntime) -> Result<(
 
 #[test]
 fn a_roster_alone_has_no_output(rt: HostRuntime) -> Result<(), Fail> {
-    let mut feed = Vec::new(rt.alloc());
-    add(&mut feed, b'C', 0, ROSTER.as_bytes())?;
+    let mut feed = begun(rt.alloc())?;
     add(&mut feed, b'Z', 0, &[])?;
     let (status, written) = replayed(&rt, rt.alloc(), feed)?;
     assert_eq!(rt; status, Status::Done);
@@ -141,76 +158,6 @@ fn other_words_are_no_command(rt: HostRuntime) -> Result<(), Fail> {
         assert_eq!(rt; status, Status::Usage);
         assert_eq!(rt; status.code(), 2);
         assert!(rt; sink.octets().is_empty());
-    }
-    Ok(())
-}
-
-#[test]
-fn a_record_of_another_form_ends_the_run_there(rt: HostRuntime) -> Result<(), Fail> {
-    let tails: [&[u8]; 12] = [
-        b"",
-        b"D\0\0\0\0\0\0\0",
-        b"?\0\0\0\0\0\0\0\0",
-        b"C\0\0\0\0\0\0\0\0",
-        b"D\0\0\0\x01\0\0\0\0",
-        b"D\0\0\0\0\0\0\0\x01\0",
-        b"E\0\0\0\x03\0\0\0\x04\x0a\0\0\x03",
-        b"E\0\0\0\x04\0\0\0\x04\x0a\0\0\x03",
-        b"E\0\0\0\x04\0\0\0\x04\x0a\0\0\x09",
-        b"E\0\0\0\x04\0\0\0\x03\x0a\0\0",
-        b"B\0\0\0\x04\0\0\0\0",
-        b"B\0\0\0\x01\0\0\0\x02\xff",
-    ];
-    for tail in tails {
-        let mut feed = decided(rt.alloc())?;
-        feed.extend_from_slice(tail)?;
-        let (status, written) = replayed(&rt, rt.alloc(), feed)?;
-        let why = FeedWhy::BadBody;
-        assert_eq!(rt; status, Status::Feed { number: 8, why }, "at {tail:?}");
-        assert_eq!(rt; status.code(), 3);
-        // What the records before it write is written.
-        let wanted = told(rt.alloc())?;
-        assert_eq!(rt; written.as_slice(), wanted.as_slice());
-    }
-    Ok(())
-}
-
-// The roster with another text in the place of one line, counted from 0.
-fn with_line(alloc: Global, at: usize, text: &str) -> Result<String, AllocError> {
-    let mut roster = String::new(alloc);
-    for (place, line) in ROSTER.lines().enumerate() {
-        roster.push_str(if place == at { text } else { line })?;
-        roster.push_str("\n")?;
-    }
-    Ok(roster)
-}
-
-#[test]
-fn a_faulty_roster_ends_the_run_at_the_first_record(rt: HostRuntime) -> Result<(), Fail> {
-    let faults = [
-        (0, "as 0"),
-        (0, "as 23456"),
-        (0, "as 65000 "),
-        (1, "id 10.0.0.1"),
-        (2, "shards 65"),
-        (3, "hold 2"),
-        (4, "area 0"),
-        (4, ""),
-        (5, "router 0.0.0.0 10.0.0.1"),
-        (6, "router 10.0.0.1 10.0.0.2"),
-        (6, "router 10.0.0.2 10.0.0.1"),
-        (8, "link 10.0.0.1 10.0.0.1 1"),
-        (8, "link 10.0.0.1 10.0.0.9 1"),
-        (9, "link 10.0.0.1 10.0.0.2 0"),
-    ];
-    for (at, text) in faults {
-        let mut feed = Vec::new(rt.alloc());
-        let roster = with_line(rt.alloc(), at, text)?;
-        add(&mut feed, b'C', 0, roster.as_bytes())?;
-        let (status, written) = replayed(&rt, rt.alloc(), feed)?;
-        let why = FeedWhy::BadBody;
-        assert_eq!(rt; status, Status::Feed { number: 1, why }, "at {text}");
-        assert!(rt; written.is_empty());
     }
     Ok(())
 }

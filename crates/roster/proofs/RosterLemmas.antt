@@ -2,11 +2,10 @@
 use Rattle.std.proofs.Common.{◌≡◌, List, [], ◌∷◌, map, refl, ap, ◌∙◌}
 use Rattle.rcp_base.specs.declared.names.Member.{Member}
 use Rattle.rcp_base.specs.Roster.{Named}
-use Rattle.rcp_model.specs.Feed.{RosterOf}
+use Rattle.rcp_model.specs.Rosters.{RosterOf, edge_of, with_edges}
 use Rattle.rcp_model.specs.declared.event.Edge.{Edge}
-use Rattle.roster.specs.Edges.{edge_of, link_of}
+use Rattle.roster.specs.Edges.{link_of}
 use Rattle.roster.specs.Drafts.{settled}
-use Rattle.roster.specs.Rosters.{with_edges}
 use Rattle.roster.specs.declared.rosters.Settings.{Settings}
 
 edges-again : (edges : List Edge) → edges ≡ map edge_of (map link_of edges)

@@ -2,7 +2,7 @@
 use Rattle.std.specs.Prelude.{◌≡◌, ◌≢◌, ℕ, ◌≤◌, false, true, List, length, All, AllPairs, IfSome}
 use Rattle.rcp_base.specs.declared.names.Member.{Member}
 use Rattle.rcp_base.specs.Roster.{Named, RosterLink, has_router, has_identifier}
-use Rattle.rcp_model.specs.Feed.{RosterOf}
+use Rattle.rcp_model.specs.Rosters.{RosterOf}
 use Rattle.roster.specs.Edges.{link_of}
 
 -- 23456 stands for the AS numbers that two octets don't hold (RFC 6793)

@@ -1,32 +1,12 @@
 -- The roster of a text, as the definitions of the route control server use it.
-use Rattle.std.specs.Prelude.{◌≡◌, ℕ, List, map, Some, None, Result, Ok, Err}
+use Rattle.std.specs.Prelude.{◌≡◌, ℕ, List, Some, None, Result, Ok, Err}
 use Rattle.rcp_base.specs.declared.kinds.RosterWhy.TheVariants as why
-use Rattle.rcp_base.specs.Roster.{RosterOf as Written, FaultyLine, Named, completed, roster_of}
-use Rattle.rcp_model.specs.Feed.{RosterOf}
-use Rattle.roster.specs.Edges.{edge_of}
+use Rattle.rcp_base.specs.Roster.{RosterOf as Written, Named, completed}
+use Rattle.rcp_model.specs.Rosters.{RosterOf, with_edges, roster_in}
 use Rattle.roster.specs.declared.refusal.Stop.{Stop}
 use Rattle.roster.specs.declared.refusal.Stop.TheVariants as stop
 use Rattle.roster.specs.declared.refusal.RosterRefusal.{RosterRefusal}
 use Rattle.roster.specs.declared.refusal.RosterRefusal.TheVariants as refusal
-
-abbrev pub with_edges : Written → RosterOf
-with_edges roster = record {
-  as_number = roster.as_number;
-  id = roster.id;
-  shards = roster.shards;
-  hold = roster.hold;
-  area = roster.area;
-  members = roster.members;
-  links = map edge_of roster.links;
-}
-
-abbrev pub edged : Result Written FaultyLine → Result RosterOf FaultyLine
-edged (Ok roster) = Ok (with_edges roster)
-edged (Err fault) = Err fault
-
--- the roster of a text, or its first faulty line
-abbrev pub roster_in : List ℕ → Result RosterOf FaultyLine
-roster_in text = edged (roster_of text)
 
 -- what is read of a text is its roster, or its first faulty line
 abbrev pub Reads : List ℕ → Result RosterOf RosterRefusal → Type 0

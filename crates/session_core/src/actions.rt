@@ -1,8 +1,6 @@
 //! What a session does.
 
-ghost use Rattle.std.specs.Prelude.{◌≡◌};
-ghost use Rattle.rcp_model.specs.Sessions.{nothing};
-ghost use Rattle.session_core.specs.Shown.{doing_of};
+ghost use Rattle.std.specs.Prelude.{◌≤◌, All, length};
 
 use rcp_base::{Prefix, Slot};
 use rcp_model::Route;
@@ -45,7 +43,7 @@ pub enum SessionEvent {
 /// What a session does at a call.
 #[derive(Debug, Drop)]
 pub struct Actions {
-    /// The messages to send, in order, one a member.
+    /// The messages to send, in order, one a member, of at most 4,096 octets each.
     pub send: Vec<Vec<u8>>,
     /// What the router tells, in order.
     pub events: Vec<SessionEvent>,
@@ -53,9 +51,14 @@ pub struct Actions {
     pub claim: Option<Slot>,
     /// The end, where this call closed the session.
     pub closed: Option<Closed>,
+    ghost short: { All (λ message. length message.items ≤ 4096) send.items },
 }
 
 impl Actions {
+    ghost use Rattle.std.specs.Prelude.{◌≡◌};
+    ghost use Rattle.rcp_model.specs.Sessions.{nothing};
+    ghost use Rattle.session_core.specs.Shown.{doing_of};
+
     /// Nothing is done.
     pub(crate) fn none(alloc: Global) -> Actions
         ensures { doing_of result ≡ nothing }

@@ -1,6 +1,6 @@
 //! Messages that a session sends.
 
-ghost use Rattle.std.specs.Prelude.{◌≡◌, ◌≤◌, OnOk, IfOk};
+ghost use Rattle.std.specs.Prelude.{◌≡◌, ◌≤◌, length, OnOk, IfOk};
 ghost use Rattle.bgp_fault.specs.Faults.{IsWithin};
 ghost use Rattle.bgp_msg.specs.Written.{data_length};
 ghost use Rattle.path_attrs.specs.Refusals.{fault_in};
@@ -15,6 +15,7 @@ use std::alloc::Global;
 
 /// Sends a message besides.
 pub fn send(alloc: Global, actions: &mut Actions, message: &[u8]) -> Result<(), NoMemory>
+    requires { length message.now ≤ 4096 }
     ensures { OnOk result (doing_of actions.new ≡ then_also (doing_of actions.old) (sending message.now)) }
 {
     let message = Vec::from_slice(alloc, message)?;

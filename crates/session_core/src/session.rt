@@ -1,8 +1,9 @@
 //! A session, and what comes to it.
 
 ghost use Rattle.std.specs.Prelude.{◌≡◌, ◌<◌, true, false, [], length, IfOk, OnOk, OnErr, if◌then◌else◌};
-ghost use Rattle.rcp_model.specs.Feed.{RosterOf};
+ghost use Rattle.rcp_model.specs.Rosters.{RosterOf};
 ghost use Rattle.rcp_model.specs.Sessions.{Octets, Seat, Moment, End, answer, begun, begun_established, course_of, seated, seat_taken, claim_answered, is_closed, Closed as ClosedPhase};
+ghost use Rattle.rcp_model.specs.Meaning.{seat_of, slot_in};
 ghost use Rattle.session_core.specs.Shown.{doing_of, phase_of, terms_of};
 ghost use Rattle.session_core.specs.Held.{Answers, AnswersOn, IsEnded, RunsOn};
 
@@ -90,6 +91,33 @@ impl Session {
             latest: now,
             spent: false,
         }
+    }
+
+    /// The slot of the router whose seat the session holds: in OpenConfirm and in Established.
+    pub fn seat(&self) -> Option<Slot>
+        ensures { result ≡ seat_of self.now.state.phase }
+    {
+        match self.state {
+            State::OpenConfirm(peering) | State::Established(peering) => Some(peering.slot),
+            _ => None,
+        }
+    }
+
+    /// The slot of the router that is connected: in Established.
+    pub fn connected(&self) -> Option<Slot>
+        ensures { result ≡ slot_in self.now.state.phase }
+    {
+        match self.state {
+            State::Established(peering) => Some(peering.slot),
+            _ => None,
+        }
+    }
+
+    /// Whether the session is closed for good.
+    pub fn is_closed(&self) -> bool
+        ensures { result ≡ is_closed self.now.state.phase }
+    {
+        self.state.is_closed()
     }
 
     /// Octets came at a moment, in seconds; one below the latest counts as that. Whole messages are handled in order, and

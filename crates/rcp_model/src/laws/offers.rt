@@ -2,12 +2,13 @@
 
 ghost use Rattle.std.specs.List.{AllByRecursion, All};
 ghost use Rattle.std.specs.Prelude.{◌<◌, List};
-ghost use Rattle.rcp_model.specs.Feed.{RosterOf, FeedRecord};
-ghost use Rattle.rcp_model.specs.Meaning.{Headline};
+ghost use Rattle.rcp_base.specs.Feed.{FeedRecord};
+ghost use Rattle.rcp_model.specs.Rosters.{RosterOf};
+ghost use Rattle.rcp_model.specs.Meaning.{NumbersRise, Headline};
 
-/// After every list of records, for each connected router and each prefix that isn't touched, the octets sent to the
-/// router so far, replayed, give at that prefix exactly what it is offered. Records that say nothing change nothing.
+/// After every list of records in which the numbers of connections rise, for each connected router and each prefix that
+/// isn't touched, the octets sent to the router so far, replayed, give at that prefix exactly what it is offered.
 pub fn octets_sent_give_the_offer()
     ensures { (roster : RosterOf) (items : List FeedRecord) → AllByRecursion (λ item. All (λ o. o < 256) item.body) items
-        → Headline roster items }
+        → NumbersRise 0 items → Headline roster items }
 {}

@@ -1,9 +1,10 @@
 //! The course of a session, whatever octets come and however they are cut (RFC 4271 section 8).
 
 ghost use Rattle.std.specs.Prelude.{◌≡◌, ℕ, true, List, [], ◌∷◌, map};
-ghost use Rattle.std.specs.List.{concat};
-ghost use Rattle.rcp_model.specs.Feed.{RosterOf};
+ghost use Rattle.std.specs.List.{concat, AllByRecursion};
+ghost use Rattle.rcp_model.specs.Rosters.{RosterOf};
 ghost use Rattle.rcp_model.specs.Sessions.{SessionState, Input, Octets, is_closed, nothing, answer, answers};
+ghost use Rattle.rcp_model.specs.Telling.{AreOctets, BringsOctets, IsTold};
 
 /// A closed session stays closed, and does nothing, whatever comes.
 pub fn closed_session_stays_closed()
@@ -21,4 +22,13 @@ pub fn any_cut()
         → concat (piece ∷ pieces) ≡ concat (other ∷ others)
         → answers roster (map (λ p. Octets p now) (piece ∷ pieces)) session
         ≡ answers roster (map (λ p. Octets p now) (other ∷ others)) session }
+{}
+
+/// What a session tells of its router is in form: prefixes have no bits behind their length, and each route has exactly
+/// the fields of its octets, which are canonical. Octets that are kept are octets.
+pub fn told_routes_are_those_of_their_octets()
+    ensures told { (roster : RosterOf) (input : Input) (session : SessionState) → AreOctets session.kept → BringsOctets input
+        → AllByRecursion (IsTold roster.as_number) (answer roster input session).does.events }
+    ensures kept { (roster : RosterOf) (input : Input) (session : SessionState) → AreOctets session.kept → BringsOctets input
+        → AreOctets (answer roster input session).after.kept }
 {}

@@ -7,6 +7,7 @@ use crate::costs::{cost_to, costs};
 use cost_rows::{Graph, View};
 use rcp_base::{Addr, Member, NoMemory, RouterId, Slot};
 use rcp_model::{Costs, Edge};
+use roster::{Roster, read};
 use std::alloc::Global;
 use std::sync::Arc;
 use std::test::Fail;
@@ -184,6 +185,13 @@ fn members() -> [Member; 4]
     ]
 }
 
+/// The same four routers.
+fn roster_of_members(alloc: Global) -> Result<Roster, Fail> {
+    let text = b"as 65000\nid 0.0.0.99\nshards 1\nhold 0\narea 0.0.0.0\n\
+        router 0.0.0.1 0.0.0.40\nrouter 0.0.0.2 0.0.0.30\nrouter 0.0.0.3 0.0.0.20\nrouter 0.0.0.4 0.0.0.10\n";
+    Ok(read(alloc, text)?)
+}
+
 fn view_of(alloc: Global, links: &[Link]) -> Result<Arc<View>, Fail> {
     if links.len() > 100 {
         return Err("too many links".into());
@@ -252,6 +260,7 @@ fn the_costs_from_each_router_are_the_plain_ones(rt: HostRuntime) -> Result<(), 
 fn a_view_has_the_plain_costs_between_slots(rt: HostRuntime) -> Result<(), Fail> {
     let alloc = rt.alloc();
     let members = members();
+    let roster = roster_of_members(alloc)?;
     for links in NETWORKS {
         let view = view_of(alloc, links)?;
         for (from, member) in members.iter().enumerate() {
@@ -260,7 +269,7 @@ fn a_view_has_the_plain_costs_between_slots(rt: HostRuntime) -> Result<(), Fail>
                 let cost = view.cost(Slot(from as u16), Slot(to)).map(u128::from);
                 assert_eq!(rt;
                     cost,
-                    cost_at(&members, &reached, Slot(to)),
+                    cost_at(&roster, &reached, Slot(to)),
                     "{from} to {to}"
                 );
             }
@@ -273,6 +282,7 @@ fn a_view_has_the_plain_costs_between_slots(rt: HostRuntime) -> Result<(), Fail>
 fn each_slot_has_the_plain_choice(rt: HostRuntime) -> Result<(), Fail> {
     let alloc = rt.alloc();
     let members = members();
+    let roster = roster_of_members(alloc)?;
     for list in LISTS {
         let (fast, plain) = candidates(alloc, list)?;
         let left = tied(alloc, &plain)?;
@@ -282,7 +292,7 @@ fn each_slot_has_the_plain_choice(rt: HostRuntime) -> Result<(), Fail> {
                 let slot = Slot(place as u16);
                 let reached = costs(alloc, view.graph().edges(), member.router)?;
                 let chosen = decision::choose(slot, &fast, &*view);
-                assert_eq!(rt; chosen, choice(&members, &reached, slot, &left), "{place}");
+                assert_eq!(rt; chosen, choice(&roster, &reached, slot, &left), "{place}");
             }
         }
     }

@@ -1,12 +1,12 @@
 //! UPDATEs of any content: what they announce and withdraw, and how faulty ones are answered.
 
 use super::{
-    ANNOUNCEMENT, WITHDRAWAL, add, add_summary, announcement, connected, decided, replayed, told,
+    ANNOUNCEMENT, WITHDRAWAL, add, add_summary, announcement, connected, decided, message,
+    replayed, told,
 };
-use crate::{FeedWhy, Status};
+use crate::Status;
 use std::alloc::Global;
 use std::test::Fail;
-use std::thread::Threads;
 
 // Octets of path attributes (RFC 4271 section 4.3).
 const IGP: &[u8] = &[0x40, 0x01, 0x01, 0x00];
@@ -42,16 +42,6 @@ fn update(
     body.extend_from_slice(&attrs)?;
     body.extend_from_slice(nlri)?;
     message(alloc, 2, &body)
-}
-
-// A message of a type with this body.
-fn message(alloc: Global, kind: u8, body: &[u8]) -> Result<Vec<u8>, Fail> {
-    let mut message = vec![in alloc; 0xff; 16]?;
-    let count = u16::try_from(body.len())?;
-    message.extend_from_slice(&count.saturating_add(19).to_be_bytes())?;
-    message.push(kind)?;
-    message.extend_from_slice(body)?;
-    Ok(message)
 }
 
 // An announcement of a router with this path and this MULTI_EXIT_DISC.
@@ -281,30 +271,5 @@ fn prefix_of_33_bits_is_answered_and_ends_the_session(rt: HostRuntime) -> Result
     assert_eq!(rt; status, Status::Done);
     let wanted = answered(alloc, 10, &[])?;
     assert_eq!(rt; written.as_slice(), wanted.as_slice());
-    Ok(())
-}
-
-// Whether a run ends at the fifth record, where octets come from A.
-fn is_refused<R: Threads + Sync>(rt: &R, alloc: Global, octets: &[u8]) -> Result<bool, Fail> {
-    let mut feed = connected(alloc)?;
-    add(&mut feed, b'B', 1, octets)?;
-    add(&mut feed, b'Z', 0, &[])?;
-    let (status, written) = replayed(rt, alloc, feed)?;
-    let why = FeedWhy::BadBody;
-    Ok(status == Status::Feed { number: 5, why } && written.is_empty())
-}
-
-#[test]
-fn octets_that_are_no_whole_update_end_the_run(rt: HostRuntime) -> Result<(), Fail> {
-    let alloc = rt.alloc();
-    assert!(rt; is_refused(&rt, alloc, &[])?);
-    assert!(rt; is_refused(&rt, alloc, &ANNOUNCEMENT[..51])?);
-    let mut two = Vec::from_slice(alloc, &ANNOUNCEMENT)?;
-    two.extend_from_slice(&ANNOUNCEMENT)?;
-    assert!(rt; is_refused(&rt, alloc, &two)?);
-    assert!(rt; is_refused(&rt, alloc, &message(alloc, 4, &[])?)?);
-    let mut other_marker = ANNOUNCEMENT;
-    other_marker[15] = 0xfe;
-    assert!(rt; is_refused(&rt, alloc, &other_marker)?);
     Ok(())
 }

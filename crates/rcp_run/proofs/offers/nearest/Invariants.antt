@@ -5,4 +5,4 @@ use Rattle.rcp_run.specs.State.{costs_in}
 use Rattle.rcp_run.proofs.offers.nearest.Given as goal
 
 abbrev pub invariant-loop-one : goal.invariant-loop-one
-invariant-loop-one l = l.best ≡ front (costs_in l.members l.reached) (take l.one-index l.list)
+invariant-loop-one l = l.best ≡ front (costs_in l.roster.members l.reached) (take l.one-index l.list)

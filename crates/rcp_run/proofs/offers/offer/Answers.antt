@@ -1,26 +1,20 @@
-use Rattle.std.proofs.Common.{◌≡◌, List, option_map, cond, ◌∙◌, ap, Bor, ℕ}
-use Rattle.std.specs.Prelude.{Some}
-use Rattle.std.specs.List.{list_any}
-use Rattle.rcp_base.specs.declared.names.Member.{Member}
+use Rattle.std.proofs.Common.{◌≡◌, List, option_map, ◌∙◌, Bor, ℕ}
 use Rattle.rcp_model.specs.Edges.{rising_edges}
-use Rattle.rcp_model.specs.Decision.{is_of, nearest}
 use Rattle.rcp_model.specs.Meaning.{domain_of}
-use Rattle.rcp_run.specs.Rosters.{roster_in}
-use Rattle.rcp_run.specs.State.{announcements_in, costs_in, offers_to}
+use Rattle.rcp_run.specs.State.{announcements_in, offers_to}
 use Rattle.rcp_run.proofs.DecisionLemmas.{chosen, short_if}
 use Rattle.rcp_run.proofs.offers.offer.Goals as goal
 
 offered : (c : goal.After-drop-list-3) → option_map (λ (octets : Bor (List ℕ)). octets.now) c.octets_unless_own.result ≡ offers_to c.args.roster.now c.args.announcements.now c.args.slot c.args.prefix
 offered c =
     c.octets_unless_own.ensures
-    ∙ chosen (domain_of (roster_in c.args.roster.now)) (announcements_in c.args.announcements.now) (rising_edges c.args.roster.now.links.items) c.args.reached.now c.args.slot c.args.prefix
-    c.deref.result.now c.deref-3.result.now c.choice-chosen.result c.requires.costs (c.deref.ensures.value ∙ c.in_ok-list.ensures) (c.deref-3.ensures.value ∙ c.in_ok-list-2.ensures)
-    (c.choice-chosen.ensures ∙ ap (λ (members : List Member). cond (list_any (is_of c.args.slot) c.deref-3.result.now) (Some c.args.slot) (nearest (costs_in members c.args.reached.now) c.deref-3.result.now))
-    c.deref-2.ensures.value)
+    ∙ chosen (domain_of c.args.roster.now) (announcements_in c.args.announcements.now) (rising_edges c.args.roster.now.links) c.args.reached.now c.args.slot c.args.prefix
+    c.deref.result.now c.deref-2.result.now c.choice-chosen.result c.requires.costs (c.deref.ensures.value ∙ c.in_ok-list.ensures) (c.deref-2.ensures.value ∙ c.in_ok-list-2.ensures)
+    c.choice-chosen.ensures
 
 pub returns-clause-offered : goal.returns-clause-offered
 returns-clause-offered c = offered c
 
 pub returns-clause-short : goal.returns-clause-short
 returns-clause-short c =
-    short_if (domain_of (roster_in c.args.roster.now)) c.args.announcements.now (rising_edges c.args.roster.now.links.items) c.args.slot c.args.prefix c.octets_unless_own.result c.requires.kept (offered c)
+    short_if (domain_of c.args.roster.now) c.args.announcements.now (rising_edges c.args.roster.now.links) c.args.slot c.args.prefix c.octets_unless_own.result c.requires.kept (offered c)

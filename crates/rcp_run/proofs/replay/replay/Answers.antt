@@ -1,5 +1,4 @@
-use Rattle.std.proofs.Common.{ℕ, ◌+◌, refl, ap, arith}
-use Rattle.rcp_run.proofs.TurnLemmas.{moved}
+use Rattle.std.proofs.Common.{ℕ, ◌+◌, sym, ap, ◌∙◌, arith}
 use Rattle.rcp_run.proofs.replay.replay.Goals as goal
 
 pub returns-in-Err-clause-answer : goal.returns-in-Err-clause-answer
@@ -8,15 +7,11 @@ returns-in-Err-clause-answer g c = λ octets told. c.in-Err.ensures.ends octets 
 pub loop-status-init : goal.loop-status-init
 loop-status-init g c = record {
   sound = c.in-Ok.ensures.sound;
+  number = ap (λ (n : ℕ). n + 1) (sym c.in-Ok.ensures.number);
+  goes_with = c.in-Ok.ensures.goes_with;
   source_never_falls = c.in-Ok.ensures.never_falls;
   sink_never_falls = omega arith;
-  told = λ octets told.
-      let b = c.in-Ok.ensures.goes_on octets told in (
-        b.rest,
-        b.told,
-        λ status left now h.
-            b.answers status left _ now (moved _ _ _ _ _ _ status _ left _ now refl (ap (λ (n : ℕ). n + 1) c.in-Ok.ensures.number) refl h),
-      );
+  told = λ octets told. let b = c.in-Ok.ensures.goes_on octets told in (b.rest, b.told, λ status left now h. b.answers status left _ now h);
 }
 
 pub returns-in-Some-clause-answer : goal.returns-in-Some-clause-answer
@@ -27,6 +22,8 @@ returns-in-Some-clause-answer g c = λ octets told.
 pub loop-status-preserved : goal.loop-status-preserved
 loop-status-preserved g c = record {
   sound = c.in_default.ensures.sound;
+  number = ap (λ (n : ℕ). n + 1) (c.loop-status.invariant.number ∙ sym c.in_default.ensures.number);
+  goes_with = c.in_default.ensures.goes_with;
   source_never_falls = omega (arith, c.loop-status.invariant.source_never_falls, c.in_default.ensures.source_never_falls);
   sink_never_falls = omega (arith, c.loop-status.invariant.sink_never_falls, c.in_default.ensures.sink_never_falls);
   told = λ octets told.

@@ -1,56 +1,63 @@
-use Rattle.std.proofs.Common.{◌≡◌, eqb, List, map, Some, None, refl, sym, ap, subst, ◌∙◌}
-use Rattle.std.specs.List.{list_any}
-use Rattle.std.specs.Int.{w16}
-use Rattle.rcp_model.specs.Updates.{Sections, update_fault, sections_of}
-use Rattle.rcp_model.specs.Attributes.{canonical_octets}
-use Rattle.rcp_model.specs.Meaning.{slot_on}
-use Rattle.rcp_run.specs.declared.engine.Begun.{Begun}
-use Rattle.rcp_run.specs.declared.engine.Connection.{Connection}
-use Rattle.rcp_run.specs.State.{sessions_in, connection_of, platform_in}
-use Rattle.rcp_run.specs.declared.update.Unread.{Unread}
-use Rattle.rcp_run.specs.Updates.{fault_of, IfFaulty, IsFirst}
-use Rattle.rcp_run.proofs.EngineLemmas.{slot_on-seated, heard_closed, heard_all, heard_faulty}
-use Rattle.rcp_run.proofs.engine.Engine.receive.Goals.{in-Ok+in_ok-hear-in-Ok, in-Err-Faulty+in_ok-close-in-Err-Faulty+in_ok-add_fault-in-Err-Faulty}
+use Rattle.std.proofs.Common.{map, sym, ap, subst, ◌∙◌, refl}
+use Rattle.std.specs.List.{flat_map, AllByRecursion}
+use Rattle.rcp_model.specs.Telling.{IsTold}
+use Rattle.rcp_model.specs.Meaning.{Connections, connection_at, domain_of, octets_turn, turn_output, after_turns}
+use Rattle.session_core.specs.Shown.{doing_of}
+use Rattle.rcp_run.specs.declared.engine.Engine.{Engine}
+use Rattle.rcp_run.specs.State.{connection_in, server_in, platform_in}
+use Rattle.rcp_run.specs.Turns.{TookTurn}
+use Rattle.rcp_run.proofs.TurnLemmas.{Found, found, not_found, Settled, settles, served, put_out, after_found, octets-number}
 use Rattle.rcp_run.proofs.engine.Engine.receive.Goals as goal
 
-pub returns-then-not-was_begun-clause-refused : goal.returns-then-not-was_begun-clause-refused
-returns-then-not-was_begun-clause-refused c = λ refused.
-    let e = c.args.self.now in
-    heard_closed (platform_in e) e.begun.items c.args.number c.args.octets.now (slot_on (map connection_of (sessions_in e.connections.items)) c.args.number) c.was_begun.result refl
-    (c.in_default.ensures ∙ ap (λ (cs : List Connection). slot_on (map connection_of (sessions_in cs)) c.args.number) c.deref.ensures.value)
-    (c.was_begun.ensures ∙ ap (λ (bs : List Begun). list_any (λ (b : Begun). eqb b.number c.args.number) bs) c.deref-in_default.ensures.value)
-    ∙ c.if-not-was_begun.true
+pub returns-in_default-clause-platform : goal.returns-in_default-clause-platform
+returns-in_default-clause-platform c =
+    let p = platform_in c.args.self.now in
+    ap (λ (es : Connections). after_turns (map (octets_turn p c.args.octets.now) es) p) (sym (not_found c.args.number c.args.self.now.connections.items c.deref.result.now c.deref.ensures.value c.in_default.ensures))
 
-pub returns-in_default-clause-form : goal.returns-in_default-clause-form
-returns-in_default-clause-form c =
-    let e = c.args.self.now in
-    heard_closed (platform_in e) e.begun.items c.args.number c.args.octets.now (slot_on (map connection_of (sessions_in e.connections.items)) c.args.number) c.was_begun.result refl
-    (c.in_default.ensures ∙ ap (λ (cs : List Connection). slot_on (map connection_of (sessions_in cs)) c.args.number) c.deref.ensures.value)
-    (c.was_begun.ensures ∙ ap (λ (bs : List Begun). list_any (λ (b : Begun). eqb b.number c.args.number) bs) c.deref-in_default.ensures.value)
-    ∙ c.if-not-was_begun.false
+pub returns-in_default-clause-output : goal.returns-in_default-clause-output
+returns-in_default-clause-output c =
+    let p = platform_in c.args.self.now in
+    c.new-out.ensures.items ∙ ap (λ (es : Connections). flat_map turn_output (map (octets_turn p c.args.octets.now) es)) (sym (not_found c.args.number c.args.self.now.connections.items c.deref.result.now c.deref.ensures.value c.in_default.ensures))
 
-pub hear-requires-clause-connected : goal.hear-requires-clause-connected
-hear-requires-clause-connected c =
-    slot_on-seated (sessions_in c.args.self.now.connections.items) c.args.number c.in-Some.slot
-    (sym (c.in-Some.ensures ∙ ap (λ (cs : List Connection). slot_on (map connection_of (sessions_in cs)) c.args.number) c.deref.ensures.value))
+here : (c : goal.In_ok-carry_out) → Found c.args.number c.args.self.now.connections.items c.in-Some.place
+here c = found c.args.number c.args.self.now.connections.items c.deref.result.now c.in-Some.place c.deref.ensures.value c.in-Some.ensures
+
+took : (c : goal.In_ok-carry_out) → (let p = platform_in c.args.self.now in TookTurn c.args.self.now.roster.as_number (octets_turn p c.args.octets.now (connection_in (here c).connection)) c.args.self.now.connections.items c.hear.new.connections.items c.in-Some.place c.in_ok-seat.seat c.in_ok-seat.actions)
+took c = c.in_ok-seat.ensures.turn (platform_in c.args.self.now) (here c).connection refl refl refl (here c).is
+
+done : (c : goal.In_ok-carry_out) → (let p = platform_in c.args.self.now in Settled p c.args.self.now.roster.as_number (octets_turn p c.args.octets.now (connection_in (here c).connection)) c.settle.new.connections.items)
+done c =
+    let p = platform_in c.args.self.now in
+    let f = here c in
+    settles p c.args.self.now.roster.as_number (octets_turn p c.args.octets.now (connection_in f.connection)) c.args.self.now.connections.items c.hear.new.connections.items c.settle.new.connections.items c.in-Some.place f.connection
+    c.in_ok-seat.seat c.in_ok-seat.actions refl c.requires.sound.numbered c.requires.sound.sessions f.place f.is (octets-number p c.args.octets.now (connection_in (here c).connection)) (took c) c.settle.ensures
 
 pub returns-clause-platform : goal.returns-clause-platform
 returns-clause-platform c =
     let e = c.args.self.now in
     let p = platform_in e in
-    let message = c.args.octets.now in
-    let on = sym (c.in-Some.ensures ∙ ap (λ (cs : List Connection). slot_on (map connection_of (sessions_in cs)) c.args.number) c.deref.ensures.value) in
-    let exact = c.in-Some-whole_update.ensures.exact in
-    elim c.match-read_body.branch [
-      | in-Ok+in_ok-hear-in-Ok w ↦
-          let says = w.in-Ok.ensures.read in
-          let sections : Sections = record { withdrawn = w.in-Ok.update.withdrawn.now; attributes = says.octets; nlri = w.in-Ok.update.nlri.now } in
-          ap platform_in w.self-is ∙ w.in_ok-hear-in-Ok.ensures.platform
-          ∙ heard_all p message w.in-Ok.update.withdrawn.now says.octets w.in-Ok.update.nlri.now (canonical_octets w.in-Ok.update.attrs) c.in-Some.slot _ on exact.0
-          (subst (λ b. update_fault w16 b ≡ None) exact.1 w.in-Ok.ensures.faultless) (subst (λ b. sections_of b ≡ Some sections) exact.1 says.sections) says.same_octets
-      | in-Err-Faulty+in_ok-close-in-Err-Faulty+in_ok-add_fault-in-Err-Faulty w ↦
-          let first = subst (λ (r : Unread). IfFaulty r (λ found. IsFirst c.in-Some-whole_update.body.now found)) w.in-Err-Faulty.field-0-is w.in-Err-Faulty.ensures.first_fault in
-          ap platform_in w.self-is ∙ w.in_ok-close-in-Err-Faulty.ensures.platform
-          ∙ heard_faulty p message c.in-Some.slot (fault_of w.in-Err-Faulty.found) _ on exact.0
-          (subst (λ b. update_fault w16 b ≡ Some (fault_of w.in-Err-Faulty.found)) exact.1 first.first)
-    ]
+    let f = here c in
+    let t = octets_turn p c.args.octets.now (connection_in f.connection) in
+    let new : Engine = record e { connections = c.settle.new.connections; server = c.carry_out.new.server } in
+    after_found p (platform_in new) e.roster.as_number (map (octets_turn p c.args.octets.now) (connection_at p.connections c.args.number)) t c.settle.new.connections.items (ap (map (octets_turn p c.args.octets.now)) f.at) (done c) refl refl refl refl
+    (served (domain_of e.roster) t c.in_ok-seat.seat (doing_of c.in_ok-seat.actions) (server_in e.roster.links e.server) (server_in e.roster.links c.carry_out.new.server) (took c).held (took c).does
+    (c.in_ok-carry_out.ensures.server (domain_of e.roster) e.roster.links))
+
+pub returns-clause-output : goal.returns-clause-output
+returns-clause-output c =
+    let p = platform_in c.args.self.now in
+    let f = here c in
+    let t = octets_turn p c.args.octets.now (connection_in f.connection) in
+    put_out t c.args.number (doing_of c.in_ok-seat.actions) c.new-out.result.items c.carry_out.new.out.items c.in_ok-carry_out.ensures.records c.new-out.ensures.items (f.same ∙ sym (octets-number p c.args.octets.now (connection_in (here c).connection))) (took c).does
+    ∙ ap (flat_map turn_output) (sym (ap (map (octets_turn p c.args.octets.now)) f.at))
+
+pub returns-clause-sound : goal.returns-clause-sound
+returns-clause-sound c =
+    let e = c.args.self.now in
+    record {
+      server = c.in_ok-carry_out.ensures.sound e.roster.as_number c.requires.sound.server
+          (subst (λ d. AllByRecursion (IsTold e.roster.as_number) d.events) (sym (took c).does) (took c).told);
+      numbered = (done c).numbered;
+      sessions = (done c).whole;
+      counted = c.requires.sound.counted;
+    }

@@ -1,6 +1,6 @@
 use Rattle.std.proofs.Common.{ap, sym, ◌∙◌}
-use Rattle.rcp_model.specs.Feed.{RosterOf}
-use Rattle.rcp_model.specs.Meaning.{slot_from}
+use Rattle.rcp_model.specs.Rosters.{RosterOf}
+use Rattle.rcp_model.specs.Rosters.{slot_from}
 use Rattle.roster.proofs.SlotLemmas.{first-slot}
 use Rattle.roster.proofs.rosters.Roster.slot_of.Goals as goal
 

@@ -1,0 +1,24 @@
+-- What a session tells of its router: routes that are those of their octets, and prefixes in form.
+use Rattle.std.specs.Prelude.{◌≡◌, ℕ, ◌<◌, List, All}
+use Rattle.std.specs.Int.{w16}
+use Rattle.rcp_base.specs.IpPrefix.{IsPrefix}
+use Rattle.rcp_model.specs.Attributes.{attributes_in, canonical_octets}
+use Rattle.rcp_model.specs.Routes.{RouteFields, route_in}
+use Rattle.rcp_model.specs.Sessions.{SessionEvent, Up, Announce, Withdraw, Input, Octets}
+
+abbrev pub AreOctets : List ℕ → Type 0
+AreOctets octets = All (λ o. o < 256) octets
+
+-- a route with the fields of its octets, which are canonical
+pub record IsRouteOf (as_number : ℕ) (route : RouteFields) : Type 0 where
+  pub fields : route ≡ route_in w16 as_number route.attrs
+  pub canonical : canonical_octets (attributes_in route.attrs) ≡ route.attrs
+
+abbrev pub IsTold : ℕ → SessionEvent → Type 0
+IsTold as_number Up = Unit {0}
+IsTold as_number (Announce p route) = IsPrefix p × IsRouteOf as_number route
+IsTold as_number (Withdraw p) = IsPrefix p
+
+abbrev pub BringsOctets : Input → Type 0
+BringsOctets (Octets piece now) = AreOctets piece
+BringsOctets input = Unit {0}
