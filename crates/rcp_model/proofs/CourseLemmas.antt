@@ -76,13 +76,6 @@ module _ (as_number : ℕ) (phase next : Phase) (does : Doing) (goes : Goes as_n
     by_end None e = e
     by_end (Some ending) e = let shut_ : is_closed next ≡ true = goes.ends ∙ ap is_some e in absurd (both_ways (is_closed next) open_ shut_)
 
-  -- a session that holds a seat claims none
-  pub seated-claims_none : (slot : ℕ) → seat_of phase ≡ Some slot → does.claim ≡ None
-  seated-claims_none slot seat = claims-none (λ since other terms e.
-      let open_ : is_closed next ≡ false = ap is_closed e in
-      let none : seat_of next ≡ None = ap seat_of e in
-      none-some slot (sym none ∙ goes.seat open_ ∙ seat))
-
 -- ---- one thing and then another
 
 Shape-then : (a b c : Option ℕ) (first second : List SessionEvent) → Shape a b first → Shape b c second → Shape a c (first ++ second)
@@ -163,10 +156,6 @@ IsQuiet-own_open roster =
 pub goes-begun : (roster : RosterOf) (now : ℕ) → Goes roster.as_number (OpenSent now) (begun roster now).does (begun roster now).after.phase
 unfolding begun
 goes-begun roster now = goes-sent roster.as_number (OpenSent now) (OpenSent now) (own_open roster ∷ []) refl refl refl (IsQuiet-own_open roster, tt)
-
-pub begun_established-does : (slot : ℕ) → (begun_established slot).does ≡ telling (Up ∷ [])
-unfolding begun_established
-begun_established-does slot = refl
 
 -- ---- timers
 
@@ -365,10 +354,6 @@ module _ (roster : RosterOf) (now : ℕ) (session : SessionState) (since slot : 
   goes-seat-free kept =
       let peering = seated_peering slot terms (moment_in session now) in
       subst (λ (a : Answer). Goes roster.as_number (OpenConfirm peering) a.does a.after.phase) (sym (answer-claiming true)) (goes-seated roster (moment_in session now) session.kept peering kept)
-
-  -- the claim was answered, and none is made again
-  pub seat-free-claims_none : AreOctets session.kept → (answer roster (Seat true now) session).does.claim ≡ None
-  seat-free-claims_none kept = seated-claims_none roster.as_number _ _ _ (goes-seat-free kept) slot refl
 
   -- a seat that is taken ends the session, and nothing is told
   pub goes-seat-taken : ((answer roster (Seat false now) session).after.phase ≡ Closed) × ((answer roster (Seat false now) session).does.events ≡ []) × ((answer roster (Seat false now) session).does ≡ seat_taken.does)

@@ -163,10 +163,6 @@ after-was turn es n s is =
 
 -- ---- one turn
 
-none_or_some : {X : Type 0} (o : Option X) → (o ≡ None) ⊎ ((x : X) × (o ≡ Some x))
-none_or_some None = inl refl
-none_or_some (Some x) = inr (x, refl)
-
 closed_none : (o : Option Ending) → false ≡ is_some o → o ≡ None
 closed_none None h = refl
 closed_none (Some ending) h = absurd cc

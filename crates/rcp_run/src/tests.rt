@@ -150,7 +150,16 @@ fn a_router_that_gets_the_best_route_itself_is_told_to_forget_the_other(
 #[test]
 fn other_words_are_no_command(rt: HostRuntime) -> Result<(), Fail> {
     let alloc = rt.alloc();
-    let lists: [&[&str]; 5] = [&[], &[""], &["Replay"], &["replays"], &["replay", "replay"]];
+    let lists: [&[&str]; 8] = [
+        &[],
+        &[""],
+        &["Replay"],
+        &["replays"],
+        &["replay", "replay"],
+        &["make", "x"],
+        &["--help"],
+        &["--", "replay"],
+    ];
     for words in lists {
         let mut source = MemSource::new(decided(alloc)?, Vec::new(alloc));
         let mut sink = MemSink::new(alloc, Vec::new(alloc));
