@@ -6,7 +6,6 @@ use Rattle.std.specs.Int.{w16, w32, to_be_bytes}
 use Rattle.std.proofs.lemmas.Bool.{cases_Bool, cond_both, or_from, both_ways}
 use Rattle.std.proofs.lemmas.List.Folds.{list_any-append}
 use Rattle.std.proofs.lemmas.List.Elements.{All-append, All-drop}
-use Rattle.std.proofs.lemmas.Option.{none-some}
 use Rattle.rcp_base.specs.IpPrefix.{IpPrefix}
 use Rattle.rcp_model.specs.Messages.{FaultOf, fault, type_field, IsMessage, message_size, messages_in, rest_of}
 use Rattle.rcp_model.specs.Routes.{RouteFields, route_of}
@@ -15,7 +14,7 @@ use Rattle.rcp_model.specs.Opens.{VERSION}
 use Rattle.rcp_model.specs.Rosters.{RosterOf}
 use Rattle.rcp_model.specs.Meaning.{seat_of, slot_in}
 use Rattle.rcp_model.specs.Telling.{AreOctets, IsTold}
-use Rattle.rcp_model.specs.Sessions.{Negotiated, Peering, Phase, OpenSent, Claiming, OpenConfirm, Established, Closed, is_closed, reads, SessionState, Ending, SessionEvent, Up, Announce, Withdraw, Doing, nothing, sending, telling, later_of, then_also, Step, step, failed, refused, notified, keepalive, opening_fault, negotiated, opened, changes_events, updated, read_at, handle, handle_all, with_fault, with_rest, course_of, LARGE_HOLD, has_passed, expired, timed, tick, Octets, Seat, Moment, End, Answer, moment_in, seat_taken, seated, claim_answered, answer, own_open, begun, begun_established}
+use Rattle.rcp_model.specs.Sessions.{Negotiated, Peering, Phase, OpenSent, Claiming, OpenConfirm, Established, Closed, is_closed, reads, SessionState, Ending, SessionEvent, Up, Announce, Withdraw, Doing, nothing, sending, telling, later_of, then_also, Step, step, failed, refused, notified, keepalive, opening_fault, negotiated, opened, changes_events, updated, read_at, handle, handle_all, with_fault, with_rest, course_of, LARGE_HOLD, has_passed, expired, timed, tick, Octets, Seat, Moment, End, Answer, moment_in, seat_taken, seated, claim_answered, answer, own_open, begun}
 use Rattle.rcp_model.proofs.CutLemmas.{cut-All}
 use Rattle.rcp_model.proofs.ReadingLemmas.{IsSize-message_size, IsMessage-message_octets}
 use Rattle.rcp_model.proofs.RunLemmas.{all-append}

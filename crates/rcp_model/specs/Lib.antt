@@ -23,3 +23,4 @@ pub mod Cases
 pub mod SessionCases
 pub mod SessionFeeds
 pub mod FeedCases
+pub mod Ribs

@@ -1,7 +1,8 @@
 -- Routes (RFC 4271 sections 1.1 and 9.1): what the decision reads of path attributes.
-use Rattle.std.specs.Prelude.{◌≡◌, ℕ, Bool, true, not, ◌&&◌, ◌==◌, List, [], ◌∷◌, length, sum_by, Option, Some, None, unwrap_or, nat_lt, if◌then◌else◌}
+use Rattle.std.specs.Prelude.{◌≡◌, ℕ, Bool, true, false, not, ◌&&◌, ◌==◌, List, [], ◌∷◌, length, sum_by, Option, Some, None, unwrap_or, IfSome, nat_lt, if◌then◌else◌}
 use Rattle.std.specs.List.{list_any}
 use Rattle.std.specs.Int.{Width, w8, w32, from_be_bytes}
+use Rattle.rcp_base.specs.IpPrefix.{IpPrefix}
 use Rattle.rcp_model.specs.Attributes.{Attribute, Segment, ORIGIN, AS_PATH, NEXT_HOP, MULTI_EXIT_DISC, LOCAL_PREF, AS_SEQUENCE, value_of, segments_in, attributes_in, canonical_octets, has_route}
 
 -- the fields of a route; `attrs` are the canonical octets of its path attributes
@@ -67,3 +68,21 @@ pub record IsRoute (route : RouteFields) : Type 0 where
   pub canonical_attrs : canonical_octets (attributes_in route.attrs) ≡ route.attrs
   pub complete : has_route (attributes_in route.attrs) ≡ true
   pub long_is : route.long ≡ is_long route.attrs
+
+-- ---- offers
+
+-- what a router is given at a prefix; the generation counts the claims of its seat
+pub record OfferFields : Type 0 where
+  pub generation : ℕ
+  pub prefix : IpPrefix
+  pub attrs : Option (List ℕ)
+
+-- the octets are the canonical ones of a route that isn't long
+pub record IsOffered (octets : List ℕ) : Type 0 where
+  pub canonical_attrs : canonical_octets (attributes_in octets) ≡ octets
+  pub complete : has_route (attributes_in octets) ≡ true
+  pub short : is_long octets ≡ false
+
+-- What every offer keeps: its octets, where there are any, can be sent.
+abbrev pub IsOffer : Option (List ℕ) → Type 0
+IsOffer attrs = IfSome attrs IsOffered

@@ -5,9 +5,13 @@ mod costs;
 mod event;
 pub mod laws;
 mod octets;
+mod offer;
 mod route;
+mod route_no;
 
 pub use costs::Costs;
 pub use event::{Change, Edge, Event};
 pub use octets::Octets;
+pub use offer::Offer;
 pub use route::Route;
+pub use route_no::RouteNo;
