@@ -24,3 +24,4 @@ pub mod SessionCases
 pub mod SessionFeeds
 pub mod FeedCases
 pub mod Ribs
+pub mod Cells
