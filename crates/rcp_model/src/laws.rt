@@ -5,6 +5,7 @@ pub mod canonical_form;
 pub mod feeds;
 pub mod filters;
 pub mod instances;
+pub mod link_state;
 pub mod offers;
 pub mod reading;
 pub mod readings;
