@@ -4,4 +4,3 @@ pub mod TurnLemmas
 pub mod SessionTurns
 pub mod MeaningLemmas
 pub mod CodecLemmas
-pub mod Computed

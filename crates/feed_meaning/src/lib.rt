@@ -12,6 +12,4 @@
 //! ```
 #![tactic(auto)]
 
-pub mod feeds;
-pub mod instances;
 pub mod offers;

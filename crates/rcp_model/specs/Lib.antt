@@ -16,11 +16,5 @@ pub mod Control
 pub mod Rosters
 pub mod Sessions
 pub mod Telling
-pub mod Examples
-pub mod Contests
-pub mod Cases
-pub mod SessionCases
-pub mod SessionFeeds
-pub mod FeedCases
 pub mod Ribs
 pub mod Cells

@@ -5,7 +5,5 @@ pub mod canonical_form;
 pub mod filters;
 pub mod link_state;
 pub mod reading;
-pub mod readings;
-pub mod session_cases;
 pub mod sessions;
 pub mod walks;
