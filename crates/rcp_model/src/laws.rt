@@ -2,10 +2,7 @@
 
 pub mod candidates;
 pub mod canonical_form;
-pub mod feeds;
 pub mod filters;
-pub mod instances;
-pub mod offers;
 pub mod reading;
 pub mod readings;
 pub mod session_cases;
