@@ -16,8 +16,6 @@ pub mod Control
 pub mod Rosters
 pub mod Sessions
 pub mod Telling
-pub mod Meaning
-pub mod WholeFeed
 pub mod Examples
 pub mod Contests
 pub mod Cases

@@ -2,11 +2,8 @@
 
 pub mod candidates;
 pub mod canonical_form;
-pub mod feeds;
 pub mod filters;
-pub mod instances;
 pub mod link_state;
-pub mod offers;
 pub mod reading;
 pub mod readings;
 pub mod session_cases;
