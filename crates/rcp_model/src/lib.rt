@@ -1,6 +1,7 @@
 //! The vocabulary of the route control server: routes, edges, changes and events.
 #![tactic(auto)]
 
+mod assigned;
 mod costs;
 mod event;
 pub mod laws;
@@ -9,6 +10,7 @@ mod offer;
 mod route;
 mod route_no;
 
+pub use assigned::Assigned;
 pub use costs::Costs;
 pub use event::{Change, Edge, Event};
 pub use octets::Octets;
