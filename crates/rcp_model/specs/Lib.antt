@@ -13,6 +13,7 @@ pub mod Costs
 pub mod Graphs
 pub mod Decision
 pub mod Control
+pub mod Assigned
 pub mod Rosters
 pub mod Sessions
 pub mod Telling
