@@ -27,3 +27,4 @@ pub mod CodecLemmas
 pub mod FaultlessLemmas
 pub mod Computed
 pub mod SessionLemmas
+pub mod PackingLemmas

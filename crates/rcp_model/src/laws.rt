@@ -6,6 +6,7 @@ pub mod feeds;
 pub mod filters;
 pub mod instances;
 pub mod offers;
+pub mod packing;
 pub mod reading;
 pub mod readings;
 pub mod session_cases;
