@@ -21,3 +21,4 @@ pub mod PacketLemmas
 pub mod WalkLemmas
 pub mod FaultlessLemmas
 pub mod SessionLemmas
+pub mod PackingLemmas

@@ -25,3 +25,4 @@ pub mod SessionFeeds
 pub mod FeedCases
 pub mod Ribs
 pub mod Cells
+pub mod Packing
