@@ -19,11 +19,13 @@
 //! ```
 #![tactic(auto)]
 
+mod engine;
 mod graph;
 mod names;
 mod search;
 mod view;
 
+pub use engine::CostEngine;
 pub use graph::Graph;
 pub use search::costs;
 pub use view::View;
