@@ -15,7 +15,7 @@ use Rattle.rcp_model.specs.Messages.{IsMessage}
 use Rattle.rcp_model.specs.Updates.{Table, withdraw_all, announce_all, after_message, after_messages}
 use Rattle.rcp_model.specs.Cells.{Cell, IsSendable, AreCells, value_after, Carries}
 use Rattle.rcp_model.specs.Packing.{update_of, fits, filled, fill, same_value, each_once, prefixes_with, Group, group_of, values_of, groups, group_updates, packed, StandsBefore, StandInOrder, AreFull, AreFilled}
-use Rattle.rcp_model.proofs.MapLemmas.{get_at-put_at_same, get_at-put_at_other, get_at-without_passed, get_at-without_left, prefix_test, same_prefix-is, same_prefix-other}
+use Rattle.rcp_base.proofs.MapLemmas.{get_at-put_at_same, get_at-put_at_other, get_at-without_passed, get_at-without_left, prefix_test, same_prefix-is, same_prefix-other}
 use Rattle.rcp_model.proofs.UpdateLemmas.{length-update_octets, IsMessage-update_octets, after_message-update_octets, after_messages-append}
 
 -- ---- values
