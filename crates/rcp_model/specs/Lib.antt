@@ -13,6 +13,7 @@ pub mod Graphs
 pub mod Decision
 pub mod Control
 pub mod Assigned
+pub mod Pending
 pub mod Rosters
 pub mod Sessions
 pub mod Telling
@@ -25,4 +26,5 @@ pub mod SessionCases
 pub mod SessionFeeds
 pub mod FeedCases
 pub mod Ribs
+pub mod ServerRibs
 pub mod Cells
