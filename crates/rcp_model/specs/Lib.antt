@@ -14,6 +14,7 @@ pub mod Graphs
 pub mod Decision
 pub mod Control
 pub mod Assigned
+pub mod Pending
 pub mod Rosters
 pub mod Sessions
 pub mod Telling
@@ -24,5 +25,6 @@ pub mod SessionCases
 pub mod SessionFeeds
 pub mod FeedCases
 pub mod Ribs
+pub mod ServerRibs
 pub mod Cells
 pub mod Packing

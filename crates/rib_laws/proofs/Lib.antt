@@ -1,0 +1,3 @@
+pub mod RibLookups
+pub mod ListLookups
+pub mod JoinLemmas

@@ -1,0 +1,4 @@
+//! Laws of the route control server as finite maps.
+#![tactic(auto)]
+
+pub mod join;
