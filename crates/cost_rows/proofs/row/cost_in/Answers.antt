@@ -4,9 +4,9 @@ use Rattle.std.proofs.lemmas.List.Sorted.{IsPartitionPoint-from_clause}
 use Rattle.std.proofs.lemmas.Option.{slice_get_past, slice_get_read}
 use Rattle.rcp_model.specs.Maps.{get_at}
 use Rattle.rcp_model.specs.LinkState.{same_number}
-use Rattle.cost_rows.proofs.ViewLemmas.{routers_partition, get_at_place, cost_of_pair}
-use Rattle.cost_rows.proofs.view.cost_in.Goals as goal
-use Rattle.cost_rows.proofs.view.cost_in.Goals.{After-partition_point-place}
+use Rattle.cost_rows.proofs.LookupLemmas.{routers_partition, get_at_place, cost_of_pair}
+use Rattle.cost_rows.proofs.row.cost_in.Goals as goal
+use Rattle.cost_rows.proofs.row.cost_in.Goals.{After-partition_point-place}
 
 -- the cost is that of the pair at the place
 at_place : (c : After-partition_point-place) → get_at same_number c.args.router c.args.pairs.now ≡ cost_of_pair c.args.router (slice_get c.args.pairs.now c.partition_point-place.result)
