@@ -109,7 +109,7 @@ abbrev pub link_to : ℕ → RouterLink
 link_to router = record { id = router; kind = 1; metric = 10 }
 
 abbrev pub kept : ℕ → List RouterLink → ℕ × Kept
-kept router links = (router, record { lsa = record { router = router; header = record { sequence = pos 1; checksum = 1; age = 1 }; links = links }; since = 0 })
+kept router links = (router, record { lsa = record { key = router; header = record { sequence = pos 1; checksum = 1; age = 1 }; content = links }; since = 0 })
 
 abbrev pub lone_link_state : LinkState
 lone_link_state = record { routers = kept A (link_to B ∷ []) ∷ kept B (link_to A ∷ link_to C ∷ []) ∷ kept C [] ∷ [] }
