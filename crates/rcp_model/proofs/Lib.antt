@@ -6,6 +6,7 @@ pub mod UpdateLemmas
 pub mod AttributeLemmas
 pub mod CanonicalLemmas
 pub mod RouteLemmas
+pub mod RibLemmas
 pub mod OfferLemmas
 pub mod ServerLemmas
 pub mod AllLemmas
@@ -20,3 +21,4 @@ pub mod PacketLemmas
 pub mod WalkLemmas
 pub mod FaultlessLemmas
 pub mod SessionLemmas
+pub mod PackingLemmas

@@ -13,8 +13,12 @@ pub mod Costs
 pub mod Graphs
 pub mod Decision
 pub mod Control
+pub mod Assigned
+pub mod Pending
 pub mod Rosters
 pub mod Sessions
 pub mod Telling
 pub mod Ribs
+pub mod ServerRibs
 pub mod Cells
+pub mod Packing

@@ -1,6 +1,7 @@
 //! The vocabulary of the route control server: routes, edges, changes and events.
 #![tactic(auto)]
 
+mod assigned;
 mod costs;
 mod event;
 pub mod laws;
@@ -10,6 +11,7 @@ mod offer;
 mod route;
 mod route_no;
 
+pub use assigned::Assigned;
 pub use costs::Costs;
 pub use event::{Change, Edge, Event};
 pub use lsa_fault::LsaFault;

@@ -1,0 +1,4 @@
+pub mod RibLookups
+pub mod ListLookups
+pub mod JoinLemmas
+pub mod PendingLemmas

@@ -1,0 +1,5 @@
+//! Laws of the route control server as finite maps.
+#![tactic(auto)]
+
+pub mod join;
+pub mod pending;
