@@ -2,3 +2,4 @@ pub mod RibLookups
 pub mod ListLookups
 pub mod JoinLemmas
 pub mod PendingLemmas
+pub mod SettledLemmas

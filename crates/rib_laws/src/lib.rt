@@ -3,3 +3,4 @@
 
 pub mod join;
 pub mod pending;
+pub mod settled;
