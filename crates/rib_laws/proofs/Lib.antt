@@ -3,3 +3,4 @@ pub mod ListLookups
 pub mod JoinLemmas
 pub mod PendingLemmas
 pub mod SettledLemmas
+pub mod PartLemmas

@@ -2,5 +2,6 @@
 #![tactic(auto)]
 
 pub mod join;
+pub mod parts;
 pub mod pending;
 pub mod settled;
