@@ -4,3 +4,5 @@ pub mod JoinLemmas
 pub mod PendingLemmas
 pub mod SettledLemmas
 pub mod PartLemmas
+pub mod WholeLemmas
+pub mod CountLemmas
