@@ -7,18 +7,19 @@ use Rattle.std.proofs.lemmas.Int.{of_z-to_z}
 use Rattle.std.specs.Int.{w32, cast_signed, cast_unsigned}
 use Rattle.std.specs.Option.{unwrap_or}
 use Rattle.rcp_model.specs.LinkState.{RouterLink, RouterLsa}
-use Rattle.lsa_reader.specs.declared.lsa.LsaFault.{LsaFault}
-use Rattle.lsa_reader.specs.declared.lsa.LsaFault.TheVariants.{Short, Checksum, Links, Owner}
+use Rattle.rcp_model.specs.declared.lsa_fault.LsaFault.{LsaFault}
+use Rattle.rcp_model.specs.declared.lsa_fault.LsaFault.TheVariants.{Short, Checksum, Links, Owner}
 use Rattle.lsa_reader.specs.declared.lsa.LsaRefusal.{LsaRefusal}
 use Rattle.lsa_reader.specs.declared.lsa.LsaRefusal.TheVariants.{Fault, NoMemory}
 use Rattle.std.specs.Option.{ok_or}
-use Rattle.lsa_reader.specs.RouterLsas.{has_zero_sums, summed, age_field, sequence_field, checksum_field, links_in, link_count, link_state_id, advertising_router, lsa_of}
-use Rattle.lsa_reader.specs.Faults.{checks, first_failing, lsa_at, Refuses, Gives}
+use Rattle.rcp_base.specs.Checks.{first_failing, unless}
+use Rattle.rcp_model.specs.RouterLsas.{has_zero_sums, summed, age_field, sequence_field, checksum_field, links_in, link_count, link_state_id, advertising_router, lsa_of, lsa_checks, lsa_at}
+use Rattle.lsa_reader.specs.Answers.{Refuses, Gives}
 
 -- the answer by what each check says
 abbrev judged : Bool → Bool → Bool → Bool → RouterLsa → Result RouterLsa LsaFault
 judged short sums links owner lsa =
-    elim (first_failing ((short, Short) ∷ (sums, Checksum) ∷ (links, Links) ∷ (owner, Owner) ∷ [])) [ Some fault ↦ Err fault | None ↦ Ok lsa ]
+    unless (first_failing ((short, Short) ∷ (sums, Checksum) ∷ (links, Links) ∷ (owner, Owner) ∷ [])) lsa
 
 abbrev is_short : List ℕ → Bool
 is_short octets = ltb (length octets) 24
@@ -33,7 +34,7 @@ abbrev is_foreign : List ℕ → Bool
 is_foreign octets = not (eqb (link_state_id octets) (advertising_router octets))
 
 lsa_at-judged : (octets : List ℕ) → lsa_at octets ≡ judged (is_short octets) (is_unsummed octets) (is_unfilled octets) (is_foreign octets) (lsa_of octets)
-unfolding lsa_at checks
+unfolding lsa_at lsa_checks
 lsa_at-judged octets = refl
 
 judged-short : (a b c d : Bool) (lsa : RouterLsa) → a ≡ true → judged a b c d lsa ≡ Err Short
@@ -93,17 +94,17 @@ lsa_at-owner octets links s e f =
 pub lsa_at-ok : (octets : List ℕ) (links : List RouterLink) → IsSummed octets →
     links_in (link_count octets) (drop 24 octets) ≡ Some links → link_state_id octets ≡ advertising_router octets →
     lsa_at octets ≡ Ok (record {
-      router = advertising_router octets;
+      key = advertising_router octets;
       header = record { sequence = sequence_field octets; checksum = checksum_field octets; age = age_field octets };
-      links = links;
+      content = links;
     })
 lsa_at-ok octets links s e f =
     lsa_at-judged octets
     ∙ judged-ok _ _ _ _ _ (le-ltb _ _ s.long) (summed_well _ _ s.sums s.checksum) (ap is_none e) (ap not (eq-eqb _ _ f))
     ∙ ap (λ found. let lsa : RouterLsa = record {
-      router = advertising_router octets;
+      key = advertising_router octets;
       header = record { sequence = sequence_field octets; checksum = checksum_field octets; age = age_field octets };
-      links = unwrap_or found [];
+      content = unwrap_or found [];
     } in Ok lsa) e
 
 -- what the reader of the links refuses is refused of the LSA
@@ -161,13 +162,13 @@ Gives-err {Y = Y} view (Err f) e said h refused = let P : LsaRefusal → Type 0 
 -- an LSA from equal parts, its sequence number out of 32 bits
 pub lsa_from_parts : (router router' age age' checksum checksum' bits bits' : ℕ) (sequence : ℤ) (links : List RouterLink) →
     router ≡ router' → age ≡ age' → checksum ≡ checksum' → bits ≡ bits' → bits < 2 ^ 32 → sequence ≡ cast_signed w32 bits →
-    (let a : RouterLsa = record { router = router'; header = record { sequence = cast_signed w32 bits'; checksum = checksum'; age = age' }; links = links } in
-    let b : RouterLsa = record { router = router; header = record { sequence = cast_signed w32 (cast_unsigned w32 sequence); checksum = checksum; age = age }; links = links } in
+    (let a : RouterLsa = record { key = router'; header = record { sequence = cast_signed w32 bits'; checksum = checksum'; age = age' }; content = links } in
+    let b : RouterLsa = record { key = router; header = record { sequence = cast_signed w32 (cast_unsigned w32 sequence); checksum = checksum; age = age }; content = links } in
     let said : Result RouterLsa LsaFault = Ok a in said ≡ Ok b)
 lsa_from_parts router router' age age' checksum checksum' bits bits' sequence links e f g h fits q =
     let same : cast_signed w32 bits' ≡ cast_signed w32 (cast_unsigned w32 sequence) =
     ap (cast_signed w32) (sym h) ∙ ap (cast_signed w32) (sym (of_z-to_z w32 bits fits)) ∙ ap (λ z. cast_signed w32 (cast_unsigned w32 z)) (sym q) in
-    ap (λ n. let a : RouterLsa = record { router = n; header = record { sequence = cast_signed w32 bits'; checksum = checksum'; age = age' }; links = links } in Ok a) (sym e)
-    ∙ ap (λ n. let a : RouterLsa = record { router = router; header = record { sequence = cast_signed w32 bits'; checksum = checksum'; age = n }; links = links } in Ok a) (sym f)
-    ∙ ap (λ n. let a : RouterLsa = record { router = router; header = record { sequence = cast_signed w32 bits'; checksum = n; age = age }; links = links } in Ok a) (sym g)
-    ∙ ap (λ z. let a : RouterLsa = record { router = router; header = record { sequence = z; checksum = checksum; age = age }; links = links } in Ok a) same
+    ap (λ n. let a : RouterLsa = record { key = n; header = record { sequence = cast_signed w32 bits'; checksum = checksum'; age = age' }; content = links } in Ok a) (sym e)
+    ∙ ap (λ n. let a : RouterLsa = record { key = router; header = record { sequence = cast_signed w32 bits'; checksum = checksum'; age = n }; content = links } in Ok a) (sym f)
+    ∙ ap (λ n. let a : RouterLsa = record { key = router; header = record { sequence = cast_signed w32 bits'; checksum = n; age = age }; content = links } in Ok a) (sym g)
+    ∙ ap (λ z. let a : RouterLsa = record { key = router; header = record { sequence = z; checksum = checksum; age = age }; content = links } in Ok a) same

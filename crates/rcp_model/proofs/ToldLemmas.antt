@@ -15,7 +15,7 @@ use Rattle.rcp_model.proofs.AttributeLemmas.{IsShort, IsShort-attributes_in}
 use Rattle.rcp_model.proofs.CanonicalLemmas.{canonical_octets_again}
 use Rattle.rcp_model.proofs.OfferLemmas.{filter-keeps}
 use Rattle.rcp_model.proofs.RouteLemmas.{route_again}
-use Rattle.rcp_model.proofs.RunLemmas.{all-append}
+use Rattle.rcp_model.proofs.AllLemmas.{all-append}
 use Rattle.rcp_model.proofs.SectionLemmas.{prefixes_in-in_form}
 
 -- the sections of octets are octets

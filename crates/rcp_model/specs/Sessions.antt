@@ -42,6 +42,17 @@ reads Closed = false
 reads (Claiming since slot negotiated) = false
 reads phase = true
 
+-- A session holds the seat of its router from the claim to its end.
+abbrev pub seat_of : Phase → Option ℕ
+seat_of (OpenConfirm peering) = Some peering.slot
+seat_of (Established peering) = Some peering.slot
+seat_of phase = None
+
+-- Its router is connected from Up to its end.
+abbrev pub slot_in : Phase → Option ℕ
+slot_in (Established peering) = Some peering.slot
+slot_in phase = None
+
 -- the octets that came and belong to no message that was read, and the latest moment that was given
 pub record SessionState : Type 0 where
   pub phase : Phase

@@ -2,12 +2,9 @@
 
 pub mod candidates;
 pub mod canonical_form;
-pub mod feeds;
 pub mod filters;
-pub mod instances;
-pub mod offers;
+pub mod link_state;
+pub mod packing;
 pub mod reading;
-pub mod readings;
-pub mod session_cases;
 pub mod sessions;
 pub mod walks;

@@ -9,8 +9,8 @@ use Rattle.rcp_base.specs.declared.kinds.FeedWhy.TheVariants as why
 use Rattle.rcp_base.specs.declared.kinds.RosterWhy.{RosterWhy}
 use Rattle.rcp_base.specs.Feed.{FeedState, FeedRecord, Feed, IsRecord, is_roster, is_finish, has_length, record_octets, fault_of, fault_in_front, before_feeds, after, with_first, feed_of}
 use Rattle.rcp_model.specs.Rosters.{RosterOf, roster_in}
-use Rattle.rcp_model.specs.Meaning.{Platform, fresh}
-use Rattle.rcp_model.specs.WholeFeed.{FeedMeaning, with_roster, meaning_of, feed_meaning, whole_output}
+use Rattle.feed_meaning.specs.Platform.{Platform, fresh}
+use Rattle.feed_meaning.specs.WholeFeeds.{FeedMeaning, with_roster, meaning_of, feed_meaning, whole_output}
 use Rattle.feed_format.specs.Reading.{Refuses, TakesLess}
 use Rattle.feed_format.specs.declared.reader.FeedRefusal.{FeedRefusal}
 use Rattle.feed_format.specs.declared.reader.FeedRefusal.TheVariants as refusal

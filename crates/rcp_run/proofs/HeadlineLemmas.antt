@@ -7,11 +7,11 @@ use Rattle.std.proofs.lemmas.List.Elements.{All-drop, All-take}
 use Rattle.rcp_base.specs.Feed.{FeedState, FeedRecord, Feed, begins, is_finish, length_at, frame_size, before_feeds, after, front, feed_within, feed_of}
 use Rattle.rcp_base.specs.Roster.{FaultyLine}
 use Rattle.rcp_model.specs.Rosters.{RosterOf, roster_in}
-use Rattle.rcp_model.specs.Meaning.{NumbersRise}
+use Rattle.feed_meaning.specs.Platform.{NumbersRise}
 use Rattle.rcp_model.specs.Telling.{AreOctets}
-use Rattle.rcp_model.specs.WholeFeed.{unread_fault, read_of, with_roster, meaning_of, feed_meaning, HeadlineWritten}
+use Rattle.feed_meaning.specs.WholeFeeds.{unread_fault, read_of, with_roster, meaning_of, feed_meaning, HeadlineWritten}
 use Rattle.rcp_run.proofs.FeedLemmas.{StandsInFront, stands, cases_front, within-last, within-more, within-fault, new_number}
-use Rattle.rcp_model.proofs.CodecLemmas.{headline}
+use Rattle.feed_meaning.proofs.CodecLemmas.{headline}
 
 -- ---- what the headline asks of records
 

@@ -8,7 +8,7 @@ use Rattle.rcp_base.specs.Feed.{FeedRecord, begins, moment_of}
 use Rattle.rcp_model.specs.Maps.{put_at, set_at, without}
 use Rattle.rcp_model.specs.LinkState.{same_number}
 use Rattle.rcp_model.specs.Sessions.{SessionState, Answer, Moment, End}
-use Rattle.rcp_model.specs.Meaning.{Platform, Connections, Turn, is_free, claim_turn, octets_turn, simple_turn, connection_at, ready_turn, slot_named, turns_of, if_open, after_turn, after_turns, record_turns, noted, is_drain, step}
+use Rattle.feed_meaning.specs.Platform.{Platform, Connections, Turn, is_free, claim_turn, octets_turn, simple_turn, connection_at, ready_turn, slot_named, turns_of, if_open, after_turn, after_turns, record_turns, noted, is_drain, step}
 
 abbrev AtMost : ℕ → Connections → Type 0
 AtMost last connections = AllByRecursion (λ entry. entry.0 ≤ last) connections

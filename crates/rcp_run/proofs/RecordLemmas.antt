@@ -8,8 +8,8 @@ use Rattle.rcp_base.specs.declared.kinds.Kind.TheVariants as kind
 use Rattle.rcp_base.specs.declared.kinds.FeedWhy.TheVariants as why
 use Rattle.rcp_base.specs.Feed.{FeedRecord, moment_of, has_length}
 use Rattle.rcp_model.specs.Rosters.{RosterOf}
-use Rattle.rcp_model.specs.Meaning.{Platform, ready_turn, slot_named, turn_output, after_turns, drain, drain_output, step, output}
-use Rattle.rcp_model.specs.WholeFeed.{unread_fault}
+use Rattle.feed_meaning.specs.Platform.{Platform, ready_turn, slot_named, turn_output, after_turns, drain, drain_output, step, output}
+use Rattle.feed_meaning.specs.WholeFeeds.{unread_fault}
 use Rattle.rcp_run.specs.Turns.{raw_turns, octets_turns, end_turns, time_turns}
 
 -- what holds of a value that came holds also in other words

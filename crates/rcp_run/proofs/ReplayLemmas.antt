@@ -9,8 +9,8 @@ use Rattle.rcp_base.specs.declared.kinds.Kind.TheVariants as kind
 use Rattle.rcp_base.specs.declared.kinds.FeedWhy.{FeedWhy}
 use Rattle.rcp_base.specs.Feed.{FeedState, FeedRecord, Feed, IsRecord, is_finish, frame_size, record_octets, out_octets, fault_of, after, feed_of}
 use Rattle.rcp_model.specs.Rosters.{RosterOf}
-use Rattle.rcp_model.specs.Meaning.{Platform, step, output, all_output}
-use Rattle.rcp_model.specs.WholeFeed.{FaultyRecord, unread_fault, end_of, read_of}
+use Rattle.feed_meaning.specs.Platform.{Platform, step, output, all_output}
+use Rattle.feed_meaning.specs.WholeFeeds.{FaultyRecord, unread_fault, end_of, read_of}
 use Rattle.feed_format.specs.Reading.{Refuses, TakesLess}
 use Rattle.feed_format.specs.Writing.{WritesLess}
 use Rattle.feed_format.specs.declared.reader.FeedRefusal.{FeedRefusal}

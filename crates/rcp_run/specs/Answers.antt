@@ -3,8 +3,8 @@ use Rattle.std.specs.Prelude.{◌≡◌, ◌≢◌, ℕ, ◌+◌, ◌≤◌, fal
 use Rattle.std.specs.List.{flat_map, AllByRecursion}
 use Rattle.outside.specs.Told.{Rose, behind}
 use Rattle.rcp_base.specs.Feed.{FeedRecord, FeedState, feed_of, out_octets}
-use Rattle.rcp_model.specs.Meaning.{Platform, all_output}
-use Rattle.rcp_model.specs.WholeFeed.{FeedEnd, Finished, FaultyRecord, FaultyRoster, StopsInLast, feed_meaning, whole_output, end_of, read_of}
+use Rattle.feed_meaning.specs.Platform.{Platform, all_output}
+use Rattle.feed_meaning.specs.WholeFeeds.{FeedEnd, Finished, FaultyRecord, FaultyRoster, StopsInLast, feed_meaning, whole_output, end_of, read_of}
 use Rattle.feed_format.specs.declared.status.Status.{Status}
 use Rattle.feed_format.specs.declared.status.Status.TheVariants.{Done, Usage, Feed, Roster, Read, Write, NoMemory, NoPath, NetFault}
 use Rattle.feed_format.specs.declared.reader.FeedRefusal.{FeedRefusal}

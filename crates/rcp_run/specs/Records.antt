@@ -2,8 +2,8 @@
 use Rattle.std.specs.Prelude.{◌≡◌, ◌<◌, true, length, None}
 use Rattle.std.specs.List.{AllByRecursion}
 use Rattle.rcp_base.specs.Feed.{FeedRecord, IsRecord, begins, has_length}
-use Rattle.rcp_model.specs.Meaning.{Platform}
-use Rattle.rcp_model.specs.WholeFeed.{unread_fault}
+use Rattle.feed_meaning.specs.Platform.{Platform}
+use Rattle.feed_meaning.specs.WholeFeeds.{unread_fault}
 
 -- a record that is lawful behind those before, and is read
 pub record IsNext (platform : Platform) (item : FeedRecord) : Type 0 where

@@ -14,9 +14,9 @@ use Rattle.rcp_model.specs.Costs.{Walk}
 use Rattle.rcp_model.specs.Control.{Place, Announcements, same_place, same_octets, router_at, announced_at, offer}
 use Rattle.rcp_model.specs.Control as control
 use Rattle.rcp_model.specs.Updates.{Table}
-use Rattle.rcp_model.specs.Sessions.{SessionState}
+use Rattle.rcp_model.specs.Sessions.{SessionState, slot_in}
 use Rattle.rcp_model.specs.Telling.{AreOctets, IsRouteOf}
-use Rattle.rcp_model.specs.Meaning.{Connections, Platform, domain_of, slot_in, cell_update, messages_to}
+use Rattle.feed_meaning.specs.Platform.{Connections, Platform, domain_of, cell_update, messages_to}
 use Rattle.rcp_run.specs.declared.announcements.Announcement.{Announcement}
 use Rattle.rcp_run.specs.declared.table.Cell.{Cell}
 use Rattle.rcp_run.specs.declared.costs.Reached.{Reached}

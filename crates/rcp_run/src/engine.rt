@@ -10,8 +10,8 @@
 ghost use Rattle.std.specs.Prelude.{◌≡◌, ◌^◌, ◌<◌, true, length, All, IfOk, OnOk, IfSome, Some, None, is_some, if◌then◌else◌};
 ghost use Rattle.rcp_base.specs.declared.kinds.FeedWhy.TheVariants.{UnknownRouter};
 ghost use Rattle.rcp_base.specs.Feed.{has_length};
-ghost use Rattle.rcp_model.specs.Meaning.{fresh, slot_named, step, output};
-ghost use Rattle.rcp_model.specs.WholeFeed.{unread_fault};
+ghost use Rattle.feed_meaning.specs.Platform.{fresh, slot_named, step, output};
+ghost use Rattle.feed_meaning.specs.WholeFeeds.{unread_fault};
 ghost use Rattle.rcp_run.specs.Records.{IsNext};
 ghost use Rattle.rcp_run.specs.State.{platform_in, IsSound};
 

@@ -6,7 +6,7 @@ ghost use Rattle.outside.specs.Told.{Rose, NeverFalls, behind};
 ghost use Rattle.rcp_base.specs.Feed.{before_feeds, is_finish, out_octets};
 ghost use Rattle.feed_format.specs.Writing.{WritesLess};
 ghost use Rattle.rcp_model.specs.Telling.{AreOctets};
-ghost use Rattle.rcp_model.specs.WholeFeed.{Finished, feed_meaning, HeadlineWritten};
+ghost use Rattle.feed_meaning.specs.WholeFeeds.{Finished, feed_meaning, HeadlineWritten};
 ghost use Rattle.rcp_run.specs.Answers.{status_of, HasCause, EndsSo, WroteSo, Answers, AnswersFrom, GoesWith, Begins, GoesOn};
 ghost use Rattle.rcp_run.specs.State.{platform_in, IsSound};
 

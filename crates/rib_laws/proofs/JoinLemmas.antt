@@ -15,7 +15,7 @@ use Rattle.rcp_model.specs.LinkState.{same_number}
 use Rattle.rcp_model.specs.Updates.{Table}
 use Rattle.rcp_model.specs.Control.{Domain, Announcements, Place, Server, ServerEvent, Up, Down, Change, Links, Work, same_place, same_octets, announced_by, announced_at, announced_prefixes, is_connected, table_of, cost_differs, offer, worked, after, after_all}
 use Rattle.rcp_model.specs.ServerRibs.{Rib, Ribs, at_prefix, with_octets, without_slot, prefixes_of, with_each, is_up, is_pending, offered, ribs_after, ribs_after_all, rib_of_tables, cell_in, ribs_of}
-use Rattle.rcp_model.proofs.MapLemmas.{same_prefix-is, prefix_test, is_among-include, is_among-include_all}
+use Rattle.rcp_base.proofs.MapLemmas.{same_prefix-is, prefix_test, is_among-include, is_among-include_all}
 use Rattle.rcp_model.proofs.ServerLemmas.{number_test, place_test}
 use Rattle.rcp_model.proofs.RibLemmas.{prefix_total, prefix_exact, rib_total, rib_exact}
 use Rattle.rib_laws.proofs.RibLookups.{prefix_tied, get-with_octets, get-without_slot, get-with_each}

@@ -16,7 +16,7 @@ use Rattle.rcp_model.specs.Updates.{Table}
 use Rattle.rcp_model.specs.Control.{Domain, Place, Announcements, Server, same_place, announced_by, announced_at, announced_prefixes, table_of, is_connected, is_touched, offer, worked}
 use Rattle.rcp_model.specs.Ribs.{RibKey, rib_cmp}
 use Rattle.rcp_model.specs.ServerRibs.{Rib, Ribs, at_prefix, without_slot, with_table, rib_of_tables, cell_in, by_prefix, ribs_of, prefixes_of, is_up, is_pending}
-use Rattle.rcp_model.proofs.MapLemmas.{IsKeyTest, get_at-put_at_same, get_at-put_at_other, get_at-without_passed, get_at-without_left, same_prefix-is, same_prefix-itself}
+use Rattle.rcp_base.proofs.MapLemmas.{IsKeyTest, get_at-put_at_same, get_at-put_at_other, get_at-without_passed, get_at-without_left, same_prefix-is, same_prefix-itself}
 use Rattle.rcp_model.proofs.ServerLemmas.{number_test, place_test}
 use Rattle.rcp_model.proofs.RibLemmas.{prefix_total, rib_total}
 use Rattle.rib_laws.proofs.RibLookups.{same_test, prefix_tied, key_tied, get-without_slot, Has, has_of_prefixes, prefixes_of_has}

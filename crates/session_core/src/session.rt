@@ -2,8 +2,7 @@
 
 ghost use Rattle.std.specs.Prelude.{◌≡◌, ◌<◌, true, false, [], length, IfOk, OnOk, OnErr, if◌then◌else◌};
 ghost use Rattle.rcp_model.specs.Rosters.{RosterOf};
-ghost use Rattle.rcp_model.specs.Sessions.{Octets, Seat, Moment, End, answer, begun, begun_established, course_of, seated, seat_taken, claim_answered, is_closed, Closed as ClosedPhase};
-ghost use Rattle.rcp_model.specs.Meaning.{seat_of, slot_in};
+ghost use Rattle.rcp_model.specs.Sessions.{Octets, Seat, Moment, End, answer, begun, begun_established, course_of, seated, seat_taken, claim_answered, is_closed, Closed as ClosedPhase, seat_of, slot_in};
 ghost use Rattle.session_core.specs.Shown.{doing_of, phase_of, terms_of};
 ghost use Rattle.session_core.specs.Held.{Answers, AnswersOn, IsEnded, RunsOn};
 

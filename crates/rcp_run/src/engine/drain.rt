@@ -6,7 +6,8 @@ ghost use Rattle.rcp_model.specs.Maps.{get_at, set_at, same_prefix};
 ghost use Rattle.rcp_model.specs.Edges.{rising_edges};
 ghost use Rattle.rcp_model.specs.LinkState.{same_number};
 ghost use Rattle.rcp_model.specs.Control.{slot_cost};
-ghost use Rattle.rcp_model.specs.Meaning.{drain, drain_output, summary, messages_to, slot_in};
+ghost use Rattle.rcp_model.specs.Sessions.{slot_in};
+ghost use Rattle.feed_meaning.specs.Platform.{drain, drain_output, summary, messages_to};
 ghost use Rattle.rcp_run.specs.State.{table_in, tables_in, connections_in, server_in, platform_in, IsKept, IsSound, AreFramed, AreShort, costs_in, offers_to, table_told, tables_told, updates_told, messages_told, cell_told, octets_in, told_in, told_to, messages_of, records_told};
 
 use super::{Connection, Engine};

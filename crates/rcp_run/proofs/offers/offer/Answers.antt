@@ -1,6 +1,6 @@
 use Rattle.std.proofs.Common.{◌≡◌, List, option_map, ◌∙◌, Bor, ℕ}
 use Rattle.rcp_model.specs.Edges.{rising_edges}
-use Rattle.rcp_model.specs.Meaning.{domain_of}
+use Rattle.feed_meaning.specs.Platform.{domain_of}
 use Rattle.rcp_run.specs.State.{announcements_in, offers_to}
 use Rattle.rcp_run.proofs.DecisionLemmas.{chosen, short_if}
 use Rattle.rcp_run.proofs.offers.offer.Goals as goal

@@ -2,7 +2,7 @@ use Rattle.std.proofs.Common.{◌≡◌, None, sym, ap, subst, refl}
 use Rattle.std.specs.List.{AllByRecursion}
 use Rattle.rcp_model.specs.Sessions.{Answer, begun}
 use Rattle.rcp_model.specs.Telling.{AreOctets, IsTold}
-use Rattle.rcp_model.specs.Meaning.{turn, domain_of}
+use Rattle.feed_meaning.specs.Platform.{turn, domain_of}
 use Rattle.session_core.specs.Shown.{doing_of}
 use Rattle.rcp_run.specs.declared.engine.Connection.{Connection}
 use Rattle.rcp_run.specs.declared.engine.Engine.{Engine}

@@ -2,7 +2,7 @@ use Rattle.std.proofs.Common.{◌≡◌, Some, List, sym, ap, subst, ◌∙◌, 
 use Rattle.std.specs.List.{AllByRecursion}
 use Rattle.rcp_model.specs.Sessions.{Answer, begun_established}
 use Rattle.rcp_model.specs.Telling.{AreOctets, IsTold}
-use Rattle.rcp_model.specs.Meaning.{Turn, turn, domain_of, is_free, after_turns}
+use Rattle.feed_meaning.specs.Platform.{Turn, turn, domain_of, is_free, after_turns}
 use Rattle.session_core.specs.Shown.{doing_of}
 use Rattle.rcp_run.specs.declared.engine.Connection.{Connection}
 use Rattle.rcp_run.specs.declared.engine.Engine.{Engine}

@@ -1,7 +1,7 @@
 use Rattle.std.proofs.Common.{◌≡◌, ◌++◌, ◌∷◌, [], ◌+◌, ◌-◌, ◌^◌, ℕ, List, Vec, length, min, ap, ◌∙◌, refl}
 use Rattle.std.specs.Global.{Global}
 use Rattle.rcp_base.specs.Feed.{OutRecord}
-use Rattle.rcp_model.specs.Meaning.{Platform, drain, drain_messages, summary}
+use Rattle.feed_meaning.specs.Platform.{Platform, drain, drain_messages, summary}
 use Rattle.rcp_run.specs.declared.announcements.Announcement.{Announcement}
 use Rattle.rcp_run.specs.declared.engine.told.Told.{Told}
 use Rattle.rcp_run.specs.declared.engine.Connection.{Connection}

@@ -1,7 +1,7 @@
 use Rattle.std.proofs.Common.{ℕ, List, not, sym, ap, subst, ◌∙◌, refl}
 use Rattle.std.specs.List.{AllByRecursion}
 use Rattle.rcp_model.specs.Sessions.{is_closed}
-use Rattle.rcp_model.specs.Meaning.{domain_of, after_turns}
+use Rattle.feed_meaning.specs.Platform.{domain_of, after_turns}
 use Rattle.rcp_run.specs.declared.engine.Connection.{Connection}
 use Rattle.rcp_run.specs.declared.engine.Engine.{Engine}
 use Rattle.rcp_run.specs.State.{connections_in, numbers_of, AreNumbered, IsWhole, platform_in}

@@ -1,7 +1,7 @@
 use Rattle.std.proofs.Common.{map, sym, ap, subst, ◌∙◌, refl}
 use Rattle.std.specs.List.{flat_map, AllByRecursion}
 use Rattle.rcp_model.specs.Telling.{IsTold}
-use Rattle.rcp_model.specs.Meaning.{Connections, connection_at, domain_of, octets_turn, turn_output, after_turns}
+use Rattle.feed_meaning.specs.Platform.{Connections, connection_at, domain_of, octets_turn, turn_output, after_turns}
 use Rattle.session_core.specs.Shown.{doing_of}
 use Rattle.rcp_run.specs.declared.engine.Engine.{Engine}
 use Rattle.rcp_run.specs.State.{connection_in, server_in, platform_in}

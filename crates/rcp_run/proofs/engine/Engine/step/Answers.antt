@@ -1,7 +1,7 @@
 use Rattle.std.proofs.Common.{ℕ, List, sym, ap, ◌∙◌}
 use Rattle.std.specs.List.{flat_map}
 use Rattle.rcp_base.specs.Feed.{FeedRecord, moment_of}
-use Rattle.rcp_model.specs.Meaning.{ready_turn, slot_named, turn_output, after_turns, step, output}
+use Rattle.feed_meaning.specs.Platform.{ready_turn, slot_named, turn_output, after_turns, step, output}
 use Rattle.rcp_run.specs.State.{platform_in}
 use Rattle.rcp_run.specs.Turns.{octets_turns, time_turns}
 use Rattle.rcp_run.proofs.RecordLemmas.{on_ok, if_ok, step-ready, step-raw, step-octets, step-closed, step-time, step-drain, step-nothing, output-ready, output-raw, output-octets, output-closed, output-time, output-drain, output-nothing}

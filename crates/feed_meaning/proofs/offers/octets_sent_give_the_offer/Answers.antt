@@ -1,0 +1,5 @@
+use Rattle.feed_meaning.proofs.CodecLemmas.{headline}
+use Rattle.feed_meaning.proofs.offers.octets_sent_give_the_offer.Goals as goal
+
+pub returns : goal.returns
+returns c = headline

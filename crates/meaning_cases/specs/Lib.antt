@@ -1,0 +1,6 @@
+pub mod Examples
+pub mod Contests
+pub mod Cases
+pub mod SessionCases
+pub mod SessionFeeds
+pub mod FeedCases

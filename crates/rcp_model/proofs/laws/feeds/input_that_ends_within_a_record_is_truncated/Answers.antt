@@ -1,8 +1,0 @@
-use Rattle.std.proofs.Common.{refl}
-use Rattle.rcp_base.specs.Feed.{kind_of, fault_in_front, front, feed_within}
-use Rattle.rcp_model.specs.WholeFeed.{unread_fault, feed_meaning}
-use Rattle.rcp_model.proofs.laws.feeds.input_that_ends_within_a_record_is_truncated.Goals as goal
-
-pub returns : goal.returns
-unfolding kind_of fault_in_front front feed_within unread_fault feed_meaning
-returns c = refl

@@ -1,5 +1,0 @@
-use Rattle.rcp_model.proofs.Computed.{lower_exit_is}
-use Rattle.rcp_model.proofs.laws.instances.exit_discriminators_of_one_neighbour_are_compared.Goals as goal
-
-pub returns : goal.returns
-returns c = lower_exit_is

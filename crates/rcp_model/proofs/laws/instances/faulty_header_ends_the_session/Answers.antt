@@ -1,5 +1,0 @@
-use Rattle.rcp_model.proofs.Computed.{faulty_header_is}
-use Rattle.rcp_model.proofs.laws.instances.faulty_header_ends_the_session.Goals as goal
-
-pub returns : goal.returns
-returns c = faulty_header_is

@@ -1,5 +1,0 @@
-use Rattle.rcp_model.proofs.Computed.{seat_taken_is}
-use Rattle.rcp_model.proofs.laws.instances.second_connection_of_a_router_is_closed.Goals as goal
-
-pub returns : goal.returns
-returns c = seat_taken_is
