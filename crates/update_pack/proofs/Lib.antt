@@ -1,0 +1,4 @@
+pub mod FillLemmas
+pub mod GroupLemmas
+pub mod PlaceLemmas
+pub mod PackLemmas
