@@ -67,7 +67,7 @@ module _ (v : Option (List ℕ)) (ps : List IpPrefix) (i octets : ℕ) (front : 
       let taken : take (i + 1) ps ≡ take i ps ++ p ∷ [] = take_more ps i p within ∙ ap (λ (q : IpPrefix). take i ps ++ q ∷ []) (sym is) in
       let rest : drop i ps ≡ p ∷ drop (i + 1) ps = drop_more ps i p within ∙ ap (λ (q : IpPrefix). q ∷ drop (i + 1) ps) (sym is) in
       let counted : octets + length (prefix_octets p) ≡ length (flat_map prefix_octets (take (i + 1) ps)) =
-          omega (arith, front.counted, length-more (take i ps) p, ap (λ (l : List IpPrefix). length (flat_map prefix_octets l)) taken) in
+      omega (arith, front.counted, length-more (take i ps) p, ap (λ (l : List IpPrefix). length (flat_map prefix_octets l)) taken) in
       record {
         counted = counted;
         short = short;

@@ -33,7 +33,7 @@ pub grouped-more : {X : Type 0} (cell_of : X → Cell) (xs : List X) (i : ℕ) (
 grouped-more cell_of xs i gs after x grouped within is sendable put =
     let done = map cell_of (take i xs) in
     let cells : map cell_of (take (i + 1) xs) ≡ done ++ cell_of x ∷ [] =
-        ap (map cell_of) (take_more xs i x within ∙ ap (λ y. take i xs ++ y ∷ []) (sym is)) ∙ map-append cell_of (take i xs) (x ∷ []) in
+    ap (map cell_of) (take_more xs i x within ∙ ap (λ y. take i xs ++ y ∷ []) (sym is)) ∙ map-append cell_of (take i xs) (x ∷ []) in
     record {
       made = put ∙ ap (put_in (cell_of x).1 (cell_of x).0) grouped.made ∙ sym (groups-push done (cell_of x).0 (cell_of x).1) ∙ ap groups (sym cells);
       sendable = subst (AllByRecursion IsSendable) (sym cells) (push_each done (cell_of x) grouped.sendable sendable);

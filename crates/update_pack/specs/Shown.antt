@@ -1,19 +1,19 @@
 -- What clauses see of offers, numbered cells and groups.
-use Rattle.std.specs.Prelude.{ℕ, List, [], map, Option, option_map, slice_index_or}
+use Rattle.std.specs.Prelude.{ℕ, List, map, option_map}
 use denote.Ref.{Bor}
 use Rattle.rcp_model.specs.Routes.{OfferFields}
 use Rattle.rcp_model.specs.Cells.{Cell}
 use Rattle.rcp_model.specs.Packing.{Group as GroupOf}
 use Rattle.update_pack.specs.declared.group.Group.{Group}
 use Rattle.update_pack.specs.declared.numbered.NumberedCell.{NumberedCell}
-use Rattle.update_pack.specs.Values.{value_in}
+use Rattle.update_pack.specs.Values.{value_in, octets_at}
 
 abbrev pub cell_of : OfferFields → Cell
 cell_of offer = (offer.prefix, offer.attrs)
 
 -- the cell whose attribute octets are those of its number
 abbrev pub numbered_cell : List (Bor (List ℕ)) → NumberedCell → Cell
-numbered_cell octets cell = (cell.prefix, option_map (λ n. slice_index_or (map (λ o. o.now) octets) n []) cell.number)
+numbered_cell octets cell = (cell.prefix, option_map (octets_at octets) cell.number)
 
 abbrev pub group_in : Group → GroupOf
 group_in group = (value_in group.attrs, group.prefixes.items)

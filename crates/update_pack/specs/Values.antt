@@ -1,5 +1,5 @@
 -- What clauses see of attribute octets that are borrowed.
-use Rattle.std.specs.Prelude.{ℕ, List, length, Option, Some, None, option_map}
+use Rattle.std.specs.Prelude.{ℕ, List, [], length, map, slice_index_or, Option, Some, None, option_map}
 use denote.Ref.{Bor}
 
 -- the value of a cell: its attribute octets, or none where it is withdrawn
@@ -10,3 +10,7 @@ value_in attrs = option_map (λ octets. octets.now) attrs
 abbrev pub octet_count : Option (List ℕ) → ℕ
 octet_count None = 0
 octet_count (Some octets) = length octets
+
+-- the octets of a number
+abbrev pub octets_at : List (Bor (List ℕ)) → ℕ → List ℕ
+octets_at octets n = slice_index_or (map (λ o. o.now) octets) n []

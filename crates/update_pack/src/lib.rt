@@ -8,5 +8,5 @@ mod key;
 mod numbered;
 mod offers;
 
-pub use numbered::NumberedCell;
+pub use numbered::{NumberedCell, pack_numbered};
 pub use offers::pack;

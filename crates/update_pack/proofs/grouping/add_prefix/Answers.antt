@@ -14,6 +14,6 @@ returns c =
     let old = c.index_mut-group.result.now in
     set-add_at items c.args.place _ c.args.prefix c.requires
     (λ d.
-      let same : old ≡ get_or items c.args.place d = c.index_mut-group.ensures.value ∙ get_or_default items c.args.place old d c.requires in
-      ap (λ (l : List IpPrefix). let g : GroupOf = (value_in old.attrs, l) in g) c.in_ok-push.ensures.items
-      ∙ ap (λ (h : Group). let g : GroupOf = (value_in h.attrs, h.prefixes.items ++ c.args.prefix ∷ []) in g) same)
+    let same : old ≡ get_or items c.args.place d = c.index_mut-group.ensures.value ∙ get_or_default items c.args.place old d c.requires in
+    ap (λ (l : List IpPrefix). let g : GroupOf = (value_in old.attrs, l) in g) c.in_ok-push.ensures.items
+    ∙ ap (λ (h : Group). let g : GroupOf = (value_in h.attrs, h.prefixes.items ++ c.args.prefix ∷ []) in g) same)

@@ -59,11 +59,11 @@ returns-clause-placed c =
     let v : Option (List ℕ) = Some c.in-Some.octets.now in
     let e : place_of v gs ≡ None = ap (λ (l : List Group). place_of v (groups_in l)) (sym c.as_slice.ensures.value) ∙ sym c.place_in.ensures ∙ c.in_default-place_in.is in
     let grown : groups_in c.open_group.new.groups.items ≡ gs ++ (v, c.args.prefix ∷ []) ∷ [] =
-        c.in_ok-open_group.ensures ∙ ap (λ (u : Option (List ℕ)). gs ++ (u, c.args.prefix ∷ []) ∷ []) (ap value_in c.in-Some.is) in
+    c.in_ok-open_group.ensures ∙ ap (λ (u : Option (List ℕ)). gs ++ (u, c.args.prefix ∷ []) ∷ []) (ap value_in c.in-Some.is) in
     let end : c.len-place.result ≡ length gs = c.len-place.ensures ∙ c.args.groups.now.ok.0 ∙ sym (length-map c.args.groups.now.items group_in) in
     subst (ArePlaces c.insert.new.self) (sym grown)
     (placed-new c.args.places.now gs c.requires.placed c.args.prefix c.in-Some.octets.now e c.insert.new.self (record { 0 = c.in-Some.octets }) refl
-      (λ q. c.in_ok-insert.ensures.updates.0 q ∙ ap (λ (n : ℕ). cond (bytes_eq c.in-Some.octets.now q.0.now) (Some n) (get same_key c.args.places.now q)) end))
+    (λ q. c.in_ok-insert.ensures.updates.0 q ∙ ap (λ (n : ℕ). cond (bytes_eq c.in-Some.octets.now q.0.now) (Some n) (get same_key c.args.places.now q)) end))
 
 pub returns-clause-last : goal.returns-clause-last
 returns-clause-last c =
@@ -71,7 +71,7 @@ returns-clause-last c =
     let v : Option (List ℕ) = Some c.in-Some.octets.now in
     let e : place_of v gs ≡ None = ap (λ (l : List Group). place_of v (groups_in l)) (sym c.as_slice.ensures.value) ∙ sym c.place_in.ensures ∙ c.in_default-place_in.is in
     let grown : groups_in c.open_group.new.groups.items ≡ gs ++ (v, c.args.prefix ∷ []) ∷ [] =
-        c.in_ok-open_group.ensures ∙ ap (λ (u : Option (List ℕ)). gs ++ (u, c.args.prefix ∷ []) ∷ []) (ap value_in c.in-Some.is) in
+    c.in_ok-open_group.ensures ∙ ap (λ (u : Option (List ℕ)). gs ++ (u, c.args.prefix ∷ []) ∷ []) (ap value_in c.in-Some.is) in
     let end : c.len-place.result ≡ length gs = c.len-place.ensures ∙ c.args.groups.now.ok.0 ∙ sym (length-map c.args.groups.now.items group_in) in
     subst (λ n. IsAPlace n (groups_in c.open_group.new.groups.items)) (sym end)
     (subst (IsAPlace (length gs)) (sym grown) (at_the_end v c.args.prefix gs e (same_value-itself v)))
