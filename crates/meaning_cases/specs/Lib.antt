@@ -4,3 +4,5 @@ pub mod Cases
 pub mod SessionCases
 pub mod SessionFeeds
 pub mod FeedCases
+pub mod FaultCases
+pub mod LinkStateCases

@@ -8,8 +8,10 @@
 //!
 //! - `readings`: contests between a few routes in which a wrong reading of the decision would give another outcome: cost
 //!   before identifier, MULTI_EXIT_DISC within one AS, partitions, and no route offered back to its router.
-//! - `session_cases`: what a session answers to each fault of a header, an OPEN and an UPDATE, to a message that its state
-//!   doesn't take, to NOTIFICATIONs, and how its timers run.
+//! - `session_cases`: how sessions open, end and claim seats, how their timers run, and what UPDATEs tell.
+//! - `fault_cases`: each further fault of a header, an OPEN and an UPDATE with its NOTIFICATION, and each message that a state
+//!   doesn't take.
+//! - `link_state_cases`: what packets bring, where framing is lost, and which instance of an LSA is kept how long.
 //! - `instances`: all that is put out for lists of records over networks of three or four routers.
 //! - `feeds`: how feeds of octets end, by their Z or by a fault.
 //!
@@ -18,7 +20,9 @@
 //! ```
 #![tactic(auto)]
 
+pub mod fault_cases;
 pub mod feeds;
 pub mod instances;
+pub mod link_state_cases;
 pub mod readings;
 pub mod session_cases;

@@ -3,10 +3,6 @@ use Rattle.rcp_base.specs.Feed.{kind_of, fault_in_front, front, feed_within}
 use Rattle.feed_meaning.specs.WholeFeeds.{unread_fault, feed_meaning}
 use Rattle.meaning_cases.proofs.feeds.faulty_roster_is_told_by_its_line.Goals as goal
 
-pub returns-clause-end : goal.returns-clause-end
+pub returns : goal.returns
 unfolding kind_of fault_in_front front feed_within unread_fault feed_meaning
-returns-clause-end c = refl
-
-pub returns-clause-output : goal.returns-clause-output
-unfolding kind_of fault_in_front front feed_within unread_fault feed_meaning
-returns-clause-output c = refl
+returns c = record { end = refl; output = refl }

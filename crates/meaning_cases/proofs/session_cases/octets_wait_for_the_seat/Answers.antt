@@ -4,14 +4,6 @@ use Rattle.rcp_model.specs.Opens.{parameter_size, open_fault}
 use Rattle.rcp_model.specs.Sessions.{handle, handle_all, course_of, tick, answer, answers, begun, begun_established}
 use Rattle.meaning_cases.proofs.session_cases.octets_wait_for_the_seat.Goals as goal
 
-pub returns-clause-claim : goal.returns-clause-claim
+pub returns : goal.returns
 unfolding header_fault message_size parameter_size open_fault handle handle_all course_of tick answer answers begun begun_established
-returns-clause-claim c = refl
-
-pub returns-clause-free : goal.returns-clause-free
-unfolding header_fault message_size parameter_size open_fault handle handle_all course_of tick answer answers begun begun_established
-returns-clause-free c = refl
-
-pub returns-clause-taken : goal.returns-clause-taken
-unfolding header_fault message_size parameter_size open_fault handle handle_all course_of tick answer answers begun begun_established
-returns-clause-taken c = refl
+returns c = record { claim = refl; free = refl; taken = refl }
