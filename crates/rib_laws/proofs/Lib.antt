@@ -8,3 +8,4 @@ pub mod WholeLemmas
 pub mod CountLemmas
 pub mod RosterLemmas
 pub mod TwoWayLemmas
+pub mod CostCases

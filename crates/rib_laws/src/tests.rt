@@ -15,11 +15,10 @@ impl Costs for Lone {
     ghost members = { λ _. record { router = 1; bgp_id = 1 } ∷ [] };
 
     fn cost(&self, from: Slot, to: Slot) -> Option<u32> {
-        if from == Slot(0) && to == Slot(0) {
-            Some(0)
-        } else {
-            None
+        if from.0 > 0 || to.0 > 0 {
+            return None;
         }
+        Some(0)
     }
 }
 
