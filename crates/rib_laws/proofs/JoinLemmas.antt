@@ -1,20 +1,17 @@
 -- Each event does the same to the server of lists and to the one of maps that it comes to.
-use Rattle.std.proofs.Common.{◌≡◌, ℕ, Bool, true, false, cond, not, ◌&&◌, ◌||◌, eqb, List, [], ◌∷◌, length, Option, Some, None, is_some, option_map, refl, sym, ap, ◌∙◌, inl, inr, subst}
+use Rattle.std.proofs.Common.{◌≡◌, ℕ, Bool, true, false, cond, not, ◌&&◌, ◌||◌, eqb, List, [], ◌∷◌, length, Option, Some, None, is_some, option_map, refl, sym, ap, ◌∙◌, subst}
 use Rattle.std.specs.Prelude.{filter}
 use Rattle.std.specs.FinMap as map_of
 use Rattle.std.specs.FinSet as set_of
-use Rattle.std.specs.List.{list_any}
-use Rattle.std.specs.Ordering.{nat_cmp, eq_by_cmp}
 use Rattle.std.specs.Cmp.{unsigned_tied}
 use Rattle.std.proofs.lemmas.Cmp.{nat_cmp_total}
-use Rattle.std.proofs.lemmas.Bool.{cases_Bool}
-use Rattle.rcp_base.specs.IpPrefix.{IpPrefix, prefix_cmp}
+use Rattle.rcp_base.specs.IpPrefix.{IpPrefix}
 use Rattle.rcp_model.specs.declared.event.Edge.{Edge}
 use Rattle.rcp_model.specs.Maps.{get_at, put_at, set_at, without, same_prefix, include, include_all, is_among}
 use Rattle.rcp_model.specs.LinkState.{same_number}
 use Rattle.rcp_model.specs.Updates.{Table}
-use Rattle.rcp_model.specs.Control.{Domain, Announcements, Place, Server, ServerEvent, Up, Down, Change, Links, Work, same_place, same_octets, announced_by, announced_at, announced_prefixes, is_connected, table_of, cost_differs, offer, worked, after, after_all}
-use Rattle.rcp_model.specs.ServerRibs.{Rib, Ribs, at_prefix, with_octets, without_slot, prefixes_of, with_each, is_up, is_pending, offered, ribs_after, ribs_after_all, rib_of_tables, cell_in, ribs_of}
+use Rattle.rcp_model.specs.Control.{Domain, Announcements, Place, Server, ServerEvent, Up, Down, Change, Links, Work, same_place, same_octets, announced_by, announced_at, announced_prefixes, is_connected, cost_differs, offer, worked, after, after_all}
+use Rattle.rcp_model.specs.ServerRibs.{Ribs, at_prefix, with_octets, prefixes_of, is_up, is_pending, offered, ribs_after, ribs_after_all, cell_in, ribs_of}
 use Rattle.rcp_base.proofs.MapLemmas.{same_prefix-is, prefix_test, is_among-include, is_among-include_all}
 use Rattle.rcp_model.proofs.ServerLemmas.{number_test, place_test}
 use Rattle.rcp_model.proofs.RibLemmas.{prefix_total, prefix_exact, rib_total, rib_exact}

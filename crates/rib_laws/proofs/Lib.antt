@@ -6,3 +6,6 @@ pub mod SettledLemmas
 pub mod PartLemmas
 pub mod WholeLemmas
 pub mod CountLemmas
+pub mod RosterLemmas
+pub mod TwoWayLemmas
+pub mod CostCases

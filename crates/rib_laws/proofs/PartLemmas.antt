@@ -1,18 +1,16 @@
 -- Parts of a server: an event acts on a part as on the whole, where it concerns the part, and else leaves it.
-use Rattle.std.proofs.Common.{◌≡◌, ℕ, ◌<◌, Bool, true, false, cond, not, ◌&&◌, ◌||◌, ◌↔◌, eqb, List, [], ◌∷◌, length, map, Option, Some, None, is_some, IsSome, refl, sym, ap, ◌∙◌, inl, inr, subst}
+use Rattle.std.proofs.Common.{◌≡◌, ℕ, Bool, true, false, cond, not, ◌&&◌, ◌||◌, eqb, List, [], ◌∷◌, length, Option, None, is_some, refl, sym, ap, ◌∙◌}
 use Rattle.std.specs.Prelude.{filter}
 use Rattle.std.specs.FinMap as map_of
 use Rattle.std.specs.FinSet as set_of
 use Rattle.std.specs.List.{list_any}
 use Rattle.std.specs.Ordering.{nat_cmp, eq_by_cmp}
-use Rattle.std.specs.declared.cmp.Ordering.TheVariants.{Less, Equal}
-use Rattle.std.proofs.lemmas.Bool.{cases_Bool, and_parts, and_from, eqb-true, eq-eqb, false≢true}
+use Rattle.std.proofs.lemmas.Bool.{and_parts, false≢true}
 use Rattle.rcp_base.specs.IpPrefix.{IpPrefix, prefix_cmp}
 use Rattle.rcp_model.specs.declared.event.Edge.{Edge}
-use Rattle.rcp_model.specs.Maps.{same_prefix, is_among}
+use Rattle.rcp_model.specs.Maps.{same_prefix}
 use Rattle.rcp_model.specs.Control.{Domain, ServerEvent, Up, Down, Change, Links, Work, same_octets, cost_differs, offer}
-use Rattle.rcp_model.specs.Assigned.{IsLeast}
-use Rattle.rcp_model.specs.ServerRibs.{Rib, Ribs, at_prefix, with_octets, without_slot, prefixes_of, with_each, is_up, is_pending, offered, ribs_after, ribs_after_all, part, is_of, concerns}
+use Rattle.rcp_model.specs.ServerRibs.{Rib, Ribs, at_prefix, with_octets, without_slot, prefixes_of, with_each, is_up, is_pending, offered, ribs_after, ribs_after_all, part, concerns}
 use Rattle.rcp_model.proofs.MapLemmas.{same_prefix-is}
 use Rattle.rcp_model.proofs.RibLemmas.{prefix_total, prefix_exact}
 use Rattle.rib_laws.proofs.RibLookups.{same_test, prefix_tied, get-with_octets, get-retained, get-without_slot, get-with_each, Has, has_of_prefixes, prefixes_of_has}

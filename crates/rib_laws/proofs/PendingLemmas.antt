@@ -1,19 +1,19 @@
 -- Which prefixes are pending after each event, exactly.
-use Rattle.std.proofs.Common.{◌≡◌, ◌≢◌, ℕ, zero, suc, ◌<◌, Bool, true, false, cond, not, ◌&&◌, ◌||◌, ◌⊎◌, ◌↔◌, eqb, List, [], ◌∷◌, length, Option, Some, None, is_some, IsSome, refl, sym, ap, ◌∙◌, inl, inr, subst, arith}
+use Rattle.std.proofs.Common.{◌≡◌, ◌≢◌, ℕ, zero, suc, ◌<◌, Bool, true, false, cond, not, ◌&&◌, ◌||◌, ◌⊎◌, ◌↔◌, eqb, List, length, Option, Some, None, IsSome, refl, sym, ap, ◌∙◌, inl, inr, subst, arith}
 use Rattle.std.specs.FinMap as map_of
 use Rattle.std.specs.FinSet as set_of
-use Rattle.std.proofs.lemmas.Bool.{cases_Bool, and_parts, and_from, or_cases, or_left, or_right, eqb-true, eqb-false, eq-eqb, false≢true, not-true, not_from_false}
+use Rattle.std.proofs.lemmas.Bool.{and_parts, and_from, or_cases, or_left, or_right, eqb-true, eqb-false, eq-eqb, false≢true, not-true, not_from_false}
 use Rattle.std.proofs.lemmas.Slice.Eq.{bytes_eq-Decides}
-use Rattle.rcp_base.specs.IpPrefix.{IpPrefix, prefix_cmp}
+use Rattle.rcp_base.specs.IpPrefix.{IpPrefix}
 use Rattle.rcp_base.specs.declared.names.Member.{Member}
 use Rattle.rcp_model.specs.declared.event.Edge.{Edge}
 use Rattle.rcp_model.specs.Maps.{same_prefix}
 use Rattle.rcp_model.specs.Control.{Domain, Announced, Server, ServerEvent, Up, Down, Change, Links, Work, same_octets, same_cost, slot_cost, cost_differs, announced_at, is_connected, is_touched, after}
-use Rattle.rcp_model.specs.Pending.{MakesPending, LeavesPending, IsPendingAfter}
+use Rattle.rcp_model.specs.Pending.{IsPendingAfter}
 use Rattle.rcp_model.specs.ServerRibs.{Ribs, at_prefix, with_octets, prefixes_of, is_up, is_pending, ribs_after, ribs_of}
 use Rattle.rcp_model.proofs.MapLemmas.{same_prefix-is, same_prefix-itself}
 use Rattle.rcp_model.proofs.RibLemmas.{prefix_total}
-use Rattle.rib_laws.proofs.RibLookups.{same_test, prefix_tied, Has, has_of_prefixes, prefixes_of_has}
+use Rattle.rib_laws.proofs.RibLookups.{prefix_tied, Has, has_of_prefixes, prefixes_of_has}
 use Rattle.rib_laws.proofs.ListLookups.{up_in_lists, announced_in_lists, pending_in_lists}
 use Rattle.rib_laws.proofs.JoinLemmas.{join}
 

@@ -7,21 +7,20 @@ use Rattle.std.specs.List.{list_any, AllByRecursion}
 use Rattle.std.specs.Ordering.{nat_cmp}
 use Rattle.std.specs.Cmp.{unsigned_tied}
 use Rattle.std.proofs.lemmas.Cmp.{nat_cmp_total}
-use Rattle.std.proofs.lemmas.Bool.{cases_Bool, and_parts, or_cases, or_parts, eqb-true, eq-eqb, false≢true, not-true, cases_lt}
+use Rattle.std.proofs.lemmas.Bool.{and_parts, or_parts, eq-eqb, false≢true, not-true, cases_lt}
 use Rattle.rcp_base.specs.IpPrefix.{IpPrefix}
 use Rattle.rcp_base.specs.declared.names.Member.{Member}
 use Rattle.rcp_model.specs.declared.event.Edge.{Edge}
 use Rattle.rcp_model.specs.Maps.{get_at, same_prefix}
 use Rattle.rcp_model.specs.Updates.{Table}
-use Rattle.rcp_model.specs.LinkState.{same_number}
 use Rattle.rcp_model.specs.Routes.{route_in, is_usable}
 use Rattle.rcp_model.specs.Decision.{Contender, contender, tied, is_of, is_nearer, is_lower_pair, nearest, choice}
-use Rattle.rcp_model.specs.Control.{Domain, Announced, Server, ServerEvent, Up, Down, Change, Links, Work, router_at, slot_cost, contender_of, announcement_contender, cons_some, candidates_from, candidates, choice_of, unless_own, offer, same_octets, same_cost, cost_differs, announced_at, is_connected, is_touched, table_of, after}
+use Rattle.rcp_model.specs.Control.{Domain, Announced, Server, ServerEvent, Up, Down, Change, Links, Work, router_at, slot_cost, contender_of, announcement_contender, cons_some, candidates_from, candidates, choice_of, unless_own, offer, same_octets, same_cost, cost_differs, announced_at, is_touched, table_of, after}
 use Rattle.rcp_model.specs.ServerRibs.{Rib, Ribs, at_prefix, with_octets, without_slot, prefixes_of, cell_in, is_up, is_pending, offered, AreSettled, empty_ribs, ribs_after, ribs_of}
 use Rattle.rcp_model.proofs.MapLemmas.{same_prefix-is}
 use Rattle.rcp_model.proofs.OfferLemmas.{offer-none, filter-keeps}
 use Rattle.rcp_model.proofs.RibLemmas.{prefix_total}
-use Rattle.rib_laws.proofs.RibLookups.{prefix_tied, get-with_octets, get-without_slot, get-with_each, Has, prefixes_of_has}
+use Rattle.rib_laws.proofs.RibLookups.{prefix_tied, get-with_octets, get-without_slot, get-with_each, prefixes_of_has}
 use Rattle.rib_laws.proofs.ListLookups.{up_in_lists, given_in_tables, pending_in_lists}
 use Rattle.rib_laws.proofs.JoinLemmas.{join, offers_join}
 use Rattle.rib_laws.proofs.PendingLemmas.{cost_same, test_of_moves}

@@ -1,16 +1,13 @@
 -- The parts of a server determine the whole, its least pending prefix of a number is that part's, and prefixes may be worked in any order.
-use Rattle.std.proofs.Common.{◌≡◌, ℕ, ◌<◌, Bool, true, false, cond, not, ◌&&◌, ◌||◌, ◌↔◌, eqb, List, [], ◌∷◌, map, Option, Some, None, refl, sym, ap, ◌∙◌, inl, inr, subst}
+use Rattle.std.proofs.Common.{◌≡◌, ℕ, ◌<◌, Bool, true, false, cond, not, ◌&&◌, ◌||◌, ◌↔◌, eqb, List, [], ◌∷◌, map, Option, Some, None, refl, sym, ap, ◌∙◌}
 use Rattle.std.specs.FinMap as map_of
 use Rattle.std.specs.FinSet as set_of
-use Rattle.std.specs.List.{list_any}
-use Rattle.std.specs.Ordering.{nat_cmp, eq_by_cmp}
-use Rattle.std.specs.declared.cmp.Ordering.TheVariants.{Less}
-use Rattle.std.proofs.lemmas.Bool.{cases_Bool, and_parts, and_from, eqb-true, eq-eqb}
+use Rattle.std.proofs.lemmas.Bool.{and_parts, and_from, eqb-true, eq-eqb}
 use Rattle.rcp_base.specs.IpPrefix.{IpPrefix, prefix_cmp}
 use Rattle.rcp_model.specs.Maps.{same_prefix, is_among}
 use Rattle.rcp_model.specs.Control.{Domain, ServerEvent, Work}
 use Rattle.rcp_model.specs.Assigned.{IsLeast}
-use Rattle.rcp_model.specs.ServerRibs.{Rib, Ribs, at_prefix, with_each, is_up, is_pending, offered, ribs_after, ribs_after_all, part, is_of}
+use Rattle.rcp_model.specs.ServerRibs.{Rib, Ribs, at_prefix, is_up, is_pending, offered, ribs_after, ribs_after_all, part, is_of}
 use Rattle.rcp_model.proofs.MapLemmas.{same_prefix-is}
 use Rattle.rcp_model.proofs.RibLemmas.{prefix_total}
 use Rattle.rib_laws.proofs.RibLookups.{prefix_tied, get-with_each}
