@@ -1,7 +1,7 @@
 //! The egress of a slot among tied ones.
 
 ghost use Rattle.std.specs.Prelude.{◌≡◌, ◌<◌, ◌↔◌, length, Contains, IsTrue, MatchOption, if◌then◌else◌, ◌==◌, ◌||◌, ◌&&◌, nat_lt};
-ghost use Rattle.rcp_model.specs.Control.{slot_cost};
+ghost use Rattle.rcp_model.specs.RouteServer.{slot_cost};
 ghost use Rattle.egress_rank.specs.Egresses.{IsMarked, IsEgress, nearer_pair};
 
 use cost_rows::View;

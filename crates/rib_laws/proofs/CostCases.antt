@@ -3,7 +3,7 @@ use Rattle.std.proofs.Common.{◌≡◌, ℕ, zero, suc, ◌<◌, ◌⊎◌, Boo
 use Rattle.std.proofs.lemmas.Bool.{eq-eqb, false≢true}
 use Rattle.rcp_base.specs.declared.names.Member.{Member}
 use Rattle.rcp_model.specs.Costs.{cost_through}
-use Rattle.rcp_model.specs.Control.{slot_cost}
+use Rattle.rcp_model.specs.RouteServer.{slot_cost}
 
 pub lone_cost : (member : Member) → slot_cost [] (member ∷ []) 0 0 ≡ Some 0
 unfolding slot_cost cost_through

@@ -9,8 +9,8 @@ use Rattle.std.proofs.lemmas.Bool.{and_parts, false≢true}
 use Rattle.rcp_base.specs.IpPrefix.{IpPrefix, prefix_cmp}
 use Rattle.rcp_model.specs.declared.event.Edge.{Edge}
 use Rattle.rcp_model.specs.Maps.{same_prefix}
-use Rattle.rcp_model.specs.Control.{Domain, ServerEvent, Up, Down, Change, Links, Work, same_octets, cost_differs, offer}
-use Rattle.rcp_model.specs.ServerRibs.{Rib, Ribs, at_prefix, with_octets, without_slot, prefixes_of, with_each, is_up, is_pending, offered, ribs_after, ribs_after_all, part, concerns}
+use Rattle.rcp_model.specs.RouteServer.{Domain, ServerEvent, Up, Down, Change, Links, Work, same_octets, cost_differs, offer}
+use Rattle.rcp_model.specs.ServerRibs.{Rib, Ribs, at_prefix, with_octets, without_slot, prefixes_of, with_each, is_up, has_pending, offered, ribs_after, ribs_after_all, part, concerns}
 use Rattle.rcp_model.proofs.MapLemmas.{same_prefix-is}
 use Rattle.rcp_model.proofs.RibLemmas.{prefix_total, prefix_exact}
 use Rattle.rib_laws.proofs.RibLookups.{same_test, prefix_tied, get-with_octets, get-retained, get-without_slot, get-with_each, Has, has_of_prefixes, prefixes_of_has}
@@ -99,7 +99,7 @@ module _ (owns : IpPrefix → Bool) where
   added-owned test ribs p =
       contains-owned (set_of.union ribs.pending (prefixes_of test ribs.announced)) p
       ∙ ap (λ b. b && owns p) (set_of.contains-union prefix_total ribs.pending (prefixes_of test ribs.announced) p)
-      ∙ shared (is_pending ribs p) (set_of.contains (prefixes_of test ribs.announced) p) (owns p)
+      ∙ shared (has_pending ribs p) (set_of.contains (prefixes_of test ribs.announced) p) (owns p)
       ∙ (λ i. sym (contains-owned ribs.pending p) i || sym (prefixes-owned test ribs.announced p) i)
       ∙ sym (set_of.contains-union prefix_total (set_of.retain ribs.pending owns) (prefixes_of test (map_of.retain_keys ribs.announced (λ key. owns key.0))) p)
 
@@ -147,8 +147,8 @@ module _ (owns : IpPrefix → Bool) where
       (λ p s. refl)
       (λ p.
       contains-owned (set_of.insert ribs.pending q) p
-      ∙ ap (λ b. b && owns p) (set_of.contains-insert prefix_total ribs.pending q p ∙ ap (λ b. b || is_pending ribs p) (prefix_tied p q))
-      ∙ put_owned (same_prefix p q) (is_pending ribs p) (owns p) (same_owner p q true own)
+      ∙ ap (λ b. b && owns p) (set_of.contains-insert prefix_total ribs.pending q p ∙ ap (λ b. b || has_pending ribs p) (prefix_tied p q))
+      ∙ put_owned (same_prefix p q) (has_pending ribs p) (owns p) (same_owner p q true own)
       ∙ (λ i. sym (prefix_tied p q) i || sym (contains-owned ribs.pending p) i)
       ∙ sym (set_of.contains-insert prefix_total (set_of.retain ribs.pending owns) q p))
       refl
@@ -164,8 +164,8 @@ module _ (owns : IpPrefix → Bool) where
       (λ p s. refl)
       (λ p.
       contains-owned (set_of.insert ribs.pending q) p
-      ∙ ap (λ b. b && owns p) (set_of.contains-insert prefix_total ribs.pending q p ∙ ap (λ b. b || is_pending ribs p) (prefix_tied p q))
-      ∙ put_other (same_prefix p q) (is_pending ribs p) (owns p) (same_owner p q false other)
+      ∙ ap (λ b. b && owns p) (set_of.contains-insert prefix_total ribs.pending q p ∙ ap (λ b. b || has_pending ribs p) (prefix_tied p q))
+      ∙ put_other (same_prefix p q) (has_pending ribs p) (owns p) (same_owner p q false other)
       ∙ sym (contains-owned ribs.pending p))
       refl
 
@@ -208,7 +208,7 @@ module _ (owns : IpPrefix → Bool) where
       (λ p.
       contains-owned (set_of.remove ribs.pending q) p
       ∙ ap (λ b. b && owns p) (set_of.contains-remove prefix_total ribs.pending q p)
-      ∙ together (not (eq_by_cmp prefix_cmp p q)) (is_pending ribs p) (owns p)
+      ∙ together (not (eq_by_cmp prefix_cmp p q)) (has_pending ribs p) (owns p)
       ∙ ap (λ b. not (eq_by_cmp prefix_cmp p q) && b) (sym (contains-owned ribs.pending p))
       ∙ sym (set_of.contains-remove prefix_total (set_of.retain ribs.pending owns) q p))
       refl
@@ -223,8 +223,8 @@ module _ (owns : IpPrefix → Bool) where
       ∙ sym (get-owned ribs.given p s))
       (λ p.
       contains-owned (set_of.remove ribs.pending q) p
-      ∙ ap (λ b. b && owns p) (set_of.contains-remove prefix_total ribs.pending q p ∙ ap (λ b. not b && is_pending ribs p) (prefix_tied p q))
-      ∙ gone_other (same_prefix p q) (is_pending ribs p) (owns p) (same_owner p q false other)
+      ∙ ap (λ b. b && owns p) (set_of.contains-remove prefix_total ribs.pending q p ∙ ap (λ b. not b && has_pending ribs p) (prefix_tied p q))
+      ∙ gone_other (same_prefix p q) (has_pending ribs p) (owns p) (same_owner p q false other)
       ∙ sym (contains-owned ribs.pending p))
       refl
 

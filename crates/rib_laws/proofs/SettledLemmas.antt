@@ -15,8 +15,8 @@ use Rattle.rcp_model.specs.Maps.{get_at, same_prefix}
 use Rattle.rcp_model.specs.Updates.{Table}
 use Rattle.rcp_model.specs.Routes.{route_in, is_usable}
 use Rattle.rcp_model.specs.Decision.{Contender, contender, tied, is_of, is_nearer, is_lower_pair, nearest, choice}
-use Rattle.rcp_model.specs.Control.{Domain, Announced, Server, ServerEvent, Up, Down, Change, Links, Work, router_at, slot_cost, contender_of, announcement_contender, cons_some, candidates_from, candidates, choice_of, unless_own, offer, same_octets, same_cost, cost_differs, announced_at, is_touched, table_of, after}
-use Rattle.rcp_model.specs.ServerRibs.{Rib, Ribs, at_prefix, with_octets, without_slot, prefixes_of, cell_in, is_up, is_pending, offered, AreSettled, empty_ribs, ribs_after, ribs_of}
+use Rattle.rcp_model.specs.RouteServer.{Domain, Announced, Server, ServerEvent, Up, Down, Change, Links, Work, router_at, slot_cost, contender_of, announcement_contender, cons_some, candidates_from, candidates, choice_of, unless_own, offer, same_octets, same_cost, cost_differs, announced_at, is_pending, table_of, after}
+use Rattle.rcp_model.specs.ServerRibs.{Rib, Ribs, at_prefix, with_octets, without_slot, prefixes_of, cell_in, is_up, has_pending, offered, AreSettled, empty_ribs, ribs_after, ribs_of}
 use Rattle.rcp_model.proofs.MapLemmas.{same_prefix-is}
 use Rattle.rcp_model.proofs.OfferLemmas.{offer-none, filter-keeps}
 use Rattle.rcp_model.proofs.RibLemmas.{prefix_total}
@@ -116,9 +116,9 @@ unset test rib p slot absent passes = by_cases (map_of.get rib (p, slot)) refl w
 
 -- a prefix that isn't pending with others in addition wasn't before, and isn't one of them
 not_added : (test : ℕ → Bool) (ribs : Ribs) (p : IpPrefix) → set_of.contains (set_of.union ribs.pending (prefixes_of test ribs.announced)) p ≡ false
-    → (is_pending ribs p ≡ false) × (set_of.contains (prefixes_of test ribs.announced) p ≡ false)
+    → (has_pending ribs p ≡ false) × (set_of.contains (prefixes_of test ribs.announced) p ≡ false)
 not_added test ribs p absent =
-    or_parts (is_pending ribs p) (set_of.contains (prefixes_of test ribs.announced) p) (sym (set_of.contains-union prefix_total ribs.pending (prefixes_of test ribs.announced) p) ∙ absent)
+    or_parts (has_pending ribs p) (set_of.contains (prefixes_of test ribs.announced) p) (sym (set_of.contains-union prefix_total ribs.pending (prefixes_of test ribs.announced) p) ∙ absent)
 
 module _ (domain : Domain) (ribs : Ribs) (h : AreSettled domain ribs) where
   settled_up : (slot : ℕ) → AreSettled domain (ribs_after domain (Up slot) ribs)
@@ -166,7 +166,7 @@ module _ (domain : Domain) (ribs : Ribs) (h : AreSettled domain ribs) where
   settled_set : (slot : ℕ) (q : IpPrefix) (octets : Option (List ℕ))
       → AreSettled domain (record ribs { announced = with_octets (q, slot) octets ribs.announced; pending = set_of.insert ribs.pending q })
   settled_set slot q octets s p up quiet =
-      let parts = or_parts (same_prefix p q) (is_pending ribs p) (ap (λ b. b || is_pending ribs p) (sym (prefix_tied p q)) ∙ sym (set_of.contains-insert prefix_total ribs.pending q p) ∙ quiet) in
+      let parts = or_parts (same_prefix p q) (has_pending ribs p) (ap (λ b. b || has_pending ribs p) (sym (prefix_tied p q)) ∙ sym (set_of.contains-insert prefix_total ribs.pending q p) ∙ quiet) in
       h s p up parts.1
       ∙ ap (λ announced. offer domain announced ribs.edges s)
       (λ i e. sym (get-with_octets (q, slot) octets ribs.announced (p, e) ∙ ap (λ b. cond (b && eqb e slot) octets (map_of.get ribs.announced (p, e))) parts.0) i)
@@ -183,11 +183,11 @@ module _ (domain : Domain) (ribs : Ribs) (h : AreSettled domain ribs) where
   settled_work q s p up quiet =
       get-with_each q (offered domain ribs q) (set_of.items ribs.connected) ribs.given (p, s)
       ∙ ap (λ b. cond (same_prefix p q && b) (offered domain ribs q s) (map_of.get ribs.given (p, s))) (sym (set_of.contains-items ribs.connected s) ∙ up)
-      ∙ at_test (same_prefix p q) refl (ap (λ b. not b && is_pending ribs p) (sym (prefix_tied p q)) ∙ sym (set_of.contains-remove prefix_total ribs.pending q p) ∙ quiet) where
-        at_test : (b : Bool) → same_prefix p q ≡ b → (not (same_prefix p q) && is_pending ribs p) ≡ false
+      ∙ at_test (same_prefix p q) refl (ap (λ b. not b && has_pending ribs p) (sym (prefix_tied p q)) ∙ sym (set_of.contains-remove prefix_total ribs.pending q p) ∙ quiet) where
+        at_test : (b : Bool) → same_prefix p q ≡ b → (not (same_prefix p q) && has_pending ribs p) ≡ false
             → cond (b && true) (offered domain ribs q s) (map_of.get ribs.given (p, s)) ≡ offer domain (at_prefix ribs.announced p) ribs.edges s
         at_test true same gone = ap (λ r. offered domain ribs r s) (sym (same_prefix-is p q same))
-        at_test false other gone = h s p up (ap (λ b. not b && is_pending ribs p) (sym other) ∙ gone)
+        at_test false other gone = h s p up (ap (λ b. not b && has_pending ribs p) (sym other) ∙ gone)
 
 pub settled_empty : (domain : Domain) (edges : List Edge) → AreSettled domain (empty_ribs edges)
 settled_empty domain edges slot p up quiet = absurd (false≢true (sym (set_of.contains-empty nat_cmp slot) ∙ up))
@@ -202,7 +202,7 @@ settled_after domain (Work q) ribs h = settled_work domain ribs h q
 -- ---- of the server of lists
 
 abbrev pub TablesAreSettled : Domain → Server → Type 0
-TablesAreSettled domain server = (slot : ℕ) (table : Table) (p : IpPrefix) → table_of server slot ≡ Some table → is_touched server p ≡ false
+TablesAreSettled domain server = (slot : ℕ) (table : Table) (p : IpPrefix) → table_of server slot ≡ Some table → is_pending server p ≡ false
     → get_at same_prefix p table ≡ offer domain (announced_at server.announcements p) server.edges slot
 
 pub settled_of_tables : (domain : Domain) (server : Server) → TablesAreSettled domain server → AreSettled domain (ribs_of server)

@@ -1,7 +1,7 @@
 //! The law of `Assigned`, as code that is generic over it reads it.
 
 ghost use Rattle.std.specs.Prelude.{◌≡◌, ◌<◌, true, false, length, option_map};
-ghost use Rattle.rcp_model.specs.Control.{offer};
+ghost use Rattle.rcp_model.specs.RouteServer.{offer};
 
 use rcp_base::{Prefix, Slot};
 use rcp_model::{Assigned, Route};

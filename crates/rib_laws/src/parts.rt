@@ -4,9 +4,9 @@ ghost use Rattle.std.specs.Prelude.{◌≡◌, ◌<◌, ◌↔◌, true, ℕ, Bo
 ghost use Rattle.std.specs.FinSet as set_of;
 ghost use Rattle.rcp_base.specs.IpPrefix.{IpPrefix};
 ghost use Rattle.rcp_model.specs.Maps.{is_among};
-ghost use Rattle.rcp_model.specs.Control.{Domain, ServerEvent, Work};
+ghost use Rattle.rcp_model.specs.RouteServer.{Domain, ServerEvent, Work};
 ghost use Rattle.rcp_model.specs.Assigned.{IsLeast};
-ghost use Rattle.rcp_model.specs.ServerRibs.{Ribs, is_pending, part, is_of, prefixes_of, concerns, ribs_after, ribs_after_all};
+ghost use Rattle.rcp_model.specs.ServerRibs.{Ribs, has_pending, part, is_of, prefixes_of, concerns, ribs_after, ribs_after_all};
 ghost use Rattle.rib_laws.specs.Totals.{total_below};
 
 /// An event does to a part what it does to the whole, where it concerns the part, and else it leaves the part as it is.
@@ -27,8 +27,8 @@ pub fn parts_determine_the_whole()
 /// The least pending prefix of a number is the least pending one of its part.
 pub fn least_pending_prefix_is_the_parts()
     ensures { (rule : IpPrefix → ℕ) (number : ℕ) (ribs : Ribs) (least : Option IpPrefix)
-        → IsLeast (λ p. (is_pending ribs p ≡ true) × (rule p ≡ number)) least
-        ↔ IsLeast (λ p. is_pending (part (is_of rule number) ribs) p ≡ true) least }
+        → IsLeast (λ p. (has_pending ribs p ≡ true) × (rule p ≡ number)) least
+        ↔ IsLeast (λ p. has_pending (part (is_of rule number) ribs) p ≡ true) least }
 {}
 
 /// Prefixes may be worked in any order, and one may be worked twice.

@@ -1,6 +1,6 @@
 use Rattle.std.proofs.Common.{sym, ◌∙◌, arith}
 use Rattle.std.proofs.lemmas.Bool.{false≢true}
-use Rattle.rcp_model.specs.Control.{slot_cost}
+use Rattle.rcp_model.specs.RouteServer.{slot_cost}
 use Rattle.egress_rank.proofs.EgressLemmas.{first_found, none_found, passed_one}
 use Rattle.egress_rank.proofs.egress.first_in.Goals as goal
 

@@ -1,4 +1,4 @@
-use Rattle.rcp_model.specs.Control.{slot_cost}
+use Rattle.rcp_model.specs.RouteServer.{slot_cost}
 use Rattle.egress_rank.proofs.EgressLemmas.{Passed}
 use Rattle.egress_rank.proofs.egress.first_in.Given as goal
 

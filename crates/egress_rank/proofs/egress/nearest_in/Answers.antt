@@ -2,7 +2,7 @@ use Rattle.std.proofs.Common.{◌≡◌, ◌<◌, ◌==◌, ◌++◌, ◌∷◌,
 use Rattle.std.proofs.lemmas.Bool.{eqb-false}
 use Rattle.std.proofs.lemmas.List.{take_more}
 use Rattle.rcp_base.specs.declared.names.Member.{Member}
-use Rattle.rcp_model.specs.Control.{slot_cost}
+use Rattle.rcp_model.specs.RouteServer.{slot_cost}
 use Rattle.cost_rows.specs.Views.{identifier_at}
 use Rattle.cost_rows.proofs.KeyLemmas.{identifier_is}
 use Rattle.cost_rows.proofs.ReachLemmas.{seated_cost}

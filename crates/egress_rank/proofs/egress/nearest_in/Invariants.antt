@@ -1,5 +1,5 @@
 use Rattle.std.proofs.Common.{take}
-use Rattle.rcp_model.specs.Control.{slot_cost}
+use Rattle.rcp_model.specs.RouteServer.{slot_cost}
 use Rattle.egress_rank.proofs.EgressLemmas.{Compared}
 use Rattle.egress_rank.proofs.egress.nearest_in.Given as goal
 

@@ -1,5 +1,5 @@
 use Rattle.std.proofs.Common.{◌≡◌, sym, inl, inr, ◌∙◌, ap₂, arith}
-use Rattle.rcp_model.specs.Control.{slot_cost}
+use Rattle.rcp_model.specs.RouteServer.{slot_cost}
 use Rattle.rib_laws.proofs.CostCases.{lone_cost, no_other_cost}
 use Rattle.rib_laws.proofs.tests.LoneCosts.cost.Goals as goal
 use Rattle.rib_laws.proofs.tests.LoneCosts.cost.Goals.{then-from-gt0-via-then-from-gt0, then-from-gt0-via-else-from-gt0+then-to-gt0}

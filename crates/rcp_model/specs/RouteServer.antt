@@ -53,11 +53,11 @@ same_octets (Some a) (Some b) = bytes_eq a b
 
 -- ---- the state of the server
 
--- The connected slots with their tables, the announcements, the touched prefixes as a rising list, and the edges of the interior network.
+-- The connected slots with their tables, the announcements, the pending prefixes as a rising list, and the edges of the interior network.
 pub record Server : Type 0 where
   pub tables : List (ℕ × Table)
   pub announcements : Announcements
-  pub touched : List IpPrefix
+  pub pending : List IpPrefix
   pub edges : List Edge
 
 abbrev pub table_of : Server → ℕ → Option Table
@@ -66,8 +66,8 @@ table_of server slot = get_at same_number slot server.tables
 abbrev pub is_connected : Server → ℕ → Bool
 is_connected server slot = is_some (table_of server slot)
 
-abbrev pub is_touched : Server → IpPrefix → Bool
-is_touched server p = is_among server.touched p
+abbrev pub is_pending : Server → IpPrefix → Bool
+is_pending server p = is_among server.pending p
 
 -- ---- candidates and offers
 
@@ -135,7 +135,7 @@ unless_own slot octets (Some chosen) = if chosen == slot then None else octets c
 unfoldable pub offer : Domain → Announced → List Edge → ℕ → Option (List ℕ)
 offer domain announced edges slot = unless_own slot announced (choice_of domain announced edges slot)
 
--- ---- events: what each does to the tables, the announcements, the touched prefixes and the edges
+-- ---- events: what each does to the tables, the announcements, the pending prefixes and the edges
 
 pub data ServerEvent : Type 0 where
   Up : ℕ → ServerEvent
@@ -169,27 +169,27 @@ worked domain announcements edges p tables =
 unfoldable pub after : Domain → ServerEvent → Server → Server
 after domain (Up slot) server = record server {
   tables = put_at same_number slot [] server.tables;
-  touched = include_all (announced_prefixes server.announcements) server.touched;
+  pending = include_all (announced_prefixes server.announcements) server.pending;
 }
 after domain (Down slot) server = record server {
   tables = without (same_number slot) server.tables;
   announcements = filter (λ entry. not (entry.0.0 == slot)) server.announcements;
-  touched = include_all (announced_prefixes (of_slot slot server.announcements)) server.touched;
+  pending = include_all (announced_prefixes (of_slot slot server.announcements)) server.pending;
 }
 after domain (Change slot p octets) server =
     if is_connected server slot && not (same_octets (announced_by server.announcements slot p) octets)
     then record server {
       announcements = set_at same_place (slot, p) octets server.announcements;
-      touched = include p server.touched;
+      pending = include p server.pending;
     }
     else server
 after domain (Links edges) server = record server {
-  touched = include_all (announced_prefixes (moved domain server.edges edges server.announcements)) server.touched;
+  pending = include_all (announced_prefixes (moved domain server.edges edges server.announcements)) server.pending;
   edges = edges;
 }
 after domain (Work p) server = record server {
   tables = worked domain server.announcements server.edges p server.tables;
-  touched = filter (λ q. not (same_prefix p q)) server.touched;
+  pending = filter (λ q. not (same_prefix p q)) server.pending;
 }
 
 -- the events of a list, one after another
