@@ -176,10 +176,10 @@ pending_after domain (Work q) ribs p = pending_work domain q ribs p
 
 -- ---- the same of the server of lists
 
-pub pending_after : (domain : Domain) (event : ServerEvent) (server : Server) (p : IpPrefix)
+pub pending_after_in_lists : (domain : Domain) (event : ServerEvent) (server : Server) (p : IpPrefix)
     → (is_pending (after domain event server) p ≡ true)
     ↔ IsPendingAfter domain.members (is_connected server) (announced_at server.announcements) server.edges (is_pending server) event p
-pending_after domain event server p =
+pending_after_in_lists domain event server p =
     subst (λ (x : (ℕ → Bool) × (IpPrefix → Announced) × (IpPrefix → Bool) × Bool). (x.3 ≡ true) ↔ IsPendingAfter domain.members x.0 x.1 server.edges x.2 event p)
     (λ i. ((λ s. up_in_lists server s i), (λ q s. announced_in_lists server q s i), (λ q. pending_in_lists server q i), now i))
     (pending_after domain event (ribs_of server) p) where

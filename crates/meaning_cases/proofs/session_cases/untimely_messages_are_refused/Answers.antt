@@ -6,4 +6,4 @@ use Rattle.meaning_cases.proofs.session_cases.untimely_messages_are_refused.Goal
 
 pub returns : goal.returns
 unfolding header_fault message_size parameter_size open_fault handle handle_all course_of tick answer answers begun begun_established
-returns c = record { update = refl; part = refl; open = refl }
+returns c = record { update = refl; part = refl; «open» = refl }
