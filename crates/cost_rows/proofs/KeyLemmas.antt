@@ -34,7 +34,7 @@ nobody = record { router = 0; bgp_id = 0 }
 identifier_there : (members : List Member) (slot : ℕ) → slot < length members → identifier_at members slot ≡ (get_or members slot nobody).bgp_id
 identifier_there members slot within = get_or-map (λ (m : Member). m.bgp_id) members slot nobody 0 within
 
-identifiers_apart : (members : List Member) → AreMembers members → (a b : ℕ) → a ≢ b → a < length members → b < length members → identifier_at members a ≢ identifier_at members b
+pub identifiers_apart : (members : List Member) → AreMembers members → (a b : ℕ) → a ≢ b → a < length members → b < length members → identifier_at members a ≢ identifier_at members b
 identifiers_apart members are a b other a_within b_within same =
     let equal : (get_or members a nobody).bgp_id ≡ (get_or members b nobody).bgp_id = sym (identifier_there members a a_within) ∙ same ∙ identifier_there members b b_within in
     elim (cases a b other) [

@@ -10,7 +10,7 @@ use Rattle.rcp_model.proofs.MemberLemmas.{Contains-none}
 use Rattle.rcp_model.specs.declared.event.Edge.{Edge}
 use Rattle.rcp_model.specs.Maps.{get_at}
 use Rattle.rcp_model.specs.LinkState.{same_number}
-use Rattle.rcp_model.specs.Control.{router_at, cost_between, slot_cost}
+use Rattle.rcp_model.specs.RouteServer.{router_at, cost_between, slot_cost}
 use Rattle.rcp_model.specs.Graphs.{IsGraph}
 use Rattle.cost_rows.specs.Engines.{cost_from}
 use Rattle.cost_rows.specs.Search.{AreNames, IsFound, ArePlaces}

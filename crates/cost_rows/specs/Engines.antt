@@ -4,7 +4,7 @@ use Rattle.rcp_base.specs.declared.names.Member.{Member}
 use Rattle.rcp_model.specs.declared.event.Edge.{Edge}
 use Rattle.rcp_model.specs.Edges.{include_edge}
 use Rattle.rcp_model.specs.Graphs.{exclude_edge}
-use Rattle.rcp_model.specs.Control.{router_at, cost_between}
+use Rattle.rcp_model.specs.RouteServer.{router_at, cost_between}
 
 -- the edges before one was added or removed, by those after it
 abbrev pub graph_before : Edge → Bool → List Edge → List Edge

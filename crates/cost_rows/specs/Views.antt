@@ -4,7 +4,7 @@ use Rattle.rcp_base.specs.declared.names.Member.{Member}
 use Rattle.rcp_model.specs.declared.event.Edge.{Edge}
 use Rattle.rcp_model.specs.Maps.{get_at}
 use Rattle.rcp_model.specs.LinkState.{same_number}
-use Rattle.rcp_model.specs.Control.{slot_cost}
+use Rattle.rcp_model.specs.RouteServer.{slot_cost}
 use Rattle.rcp_model.specs.Decision.{is_lower_pair}
 use Rattle.rcp_model.specs.Graphs.{AreMembers}
 use Rattle.cost_rows.specs.Engines.{cost_from}

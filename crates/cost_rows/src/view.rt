@@ -2,7 +2,7 @@
 
 ghost use Rattle.std.specs.Prelude.{◌≡◌, ℕ, ◌<◌, ◌≤◌, length, map, slice_get, All, Contains, Some, IfOk};
 ghost use Rattle.std.specs.List.{AllZip};
-ghost use Rattle.rcp_model.specs.Control.{slot_cost};
+ghost use Rattle.rcp_model.specs.RouteServer.{slot_cost};
 ghost use Rattle.rcp_model.specs.Graphs.{AreMembers};
 ghost use Rattle.cost_rows.specs.Views.{IsRanking, AreRenewals};
 

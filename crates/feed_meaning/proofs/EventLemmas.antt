@@ -7,7 +7,7 @@ use Rattle.rcp_model.specs.Maps.{get_at}
 use Rattle.rcp_model.specs.Attributes.{canonical_octets, attributes_in}
 use Rattle.rcp_model.specs.Updates.{Table}
 use Rattle.rcp_model.specs.LinkState.{same_number}
-use Rattle.rcp_model.specs.Control.{Domain, Server, ServerEvent, Up, Down, Change, Links, Work, table_of, is_connected, same_octets, announced_by, after, after_all}
+use Rattle.rcp_model.specs.RouteServer.{Domain, Server, ServerEvent, Up, Down, Change, Links, Work, table_of, is_connected, same_octets, announced_by, after, after_all}
 use Rattle.rcp_model.specs.Sessions.{SessionEvent, Announce, Withdraw, Ending, Doing}
 use Rattle.rcp_model.specs.Sessions as session
 use Rattle.rcp_model.specs.Telling.{IsTold}

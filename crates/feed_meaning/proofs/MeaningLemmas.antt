@@ -1,4 +1,4 @@
--- The headline: after each record the octets sent to each connection replay to its table, and tables are the offers where nothing is touched.
+-- The headline: after each record the octets sent to each connection replay to its table, and tables are the offers where nothing is pending.
 use Rattle.std.proofs.Common.{◌≡◌, ℕ, ◌≤◌, ◌<◌, true, cond, eqb, List, [], ◌∷◌, ◌++◌, length, Option, Some, None, refl, sym, ap, subst, ◌∙◌, inl, inr, arith, append_assoc}
 use Rattle.std.specs.List.{concat, AllByRecursion}
 use Rattle.std.proofs.lemmas.Bool.{cases_Bool, eqb-true}
@@ -11,7 +11,7 @@ use Rattle.rcp_model.specs.Maps.{get_at, same_prefix, is_among}
 use Rattle.rcp_model.specs.Messages.{IsMessage}
 use Rattle.rcp_model.specs.Updates.{Table, after_messages, replay}
 use Rattle.rcp_model.specs.LinkState.{same_number}
-use Rattle.rcp_model.specs.Control.{Server, table_of, offer, announced_at}
+use Rattle.rcp_model.specs.RouteServer.{Server, table_of, offer, announced_at}
 use Rattle.rcp_model.specs.Sessions.{SessionState, slot_in}
 use Rattle.rcp_model.specs.Telling.{AreOctets}
 use Rattle.feed_meaning.specs.Platform.{Connections, Platform, domain_of, fresh, slot_of_session, Turn, turn, after_turn, after_turns, messages_to, changed_cells, slot_cells, drained, summary, work_events, drained_server, drain_messages, drain, drain_output, noted, is_drain, record_turns, step, output, platform_after, all_output, sent_to, NumbersRise, Headline}
@@ -24,7 +24,7 @@ use Rattle.feed_meaning.proofs.EventLemmas.{settled-all, work-good}
 use Rattle.feed_meaning.proofs.TurnLemmas.{sent_to-append, sent_to-messages, sent_to-others, Distinct, Tells, Kept}
 use Rattle.feed_meaning.proofs.SessionTurns.{kept-later, turns-keep}
 
--- ---- the touched prefixes are worked
+-- ---- the pending prefixes are worked
 
 -- the messages to one connection among those to all
 sent_to-absent : (n : ℕ) (ps : List IpPrefix) (before now : Server) (es : Connections) → get_at same_number n es ≡ None → sent_to n (drained ps before now es) ≡ []
@@ -54,23 +54,23 @@ sent_to-drained n s ps before now (e ∷ es) d is =
     ]
 
 module _ (codec : CellUpdates) (platform : Platform) (outs : List OutRecord) (last : ℕ) (h : Kept platform outs last) where
-  work : Worked (domain_of platform.roster) platform.server.touched platform.server (drained_server platform)
-  work = worked-all (domain_of platform.roster) platform.server.touched platform.server
+  work : Worked (domain_of platform.roster) platform.server.pending platform.server (drained_server platform)
+  work = worked-all (domain_of platform.roster) platform.server.pending platform.server
 
   -- what a table has afterwards leaves room for its prefix
   new_fits : (slot : ℕ) (table new : Table) (p : IpPrefix) (octets : List ℕ) → table_of platform.server slot ≡ Some table
-      → ((q : IpPrefix) → get_at same_prefix q new ≡ cond (is_among platform.server.touched q) (offer (domain_of platform.roster) (announced_at platform.server.announcements q) platform.server.edges slot) (get_at same_prefix q table))
+      → ((q : IpPrefix) → get_at same_prefix q new ≡ cond (is_among platform.server.pending q) (offer (domain_of platform.roster) (announced_at platform.server.announcements q) platform.server.edges slot) (get_at same_prefix q table))
       → get_at same_prefix p new ≡ Some octets → length octets ≤ 4068
   new_fits slot table new p octets had gives is =
       let offered : offer (domain_of platform.roster) (announced_at platform.server.announcements p) platform.server.edges slot ≡ Some octets =
-      elim (cases_Bool (is_among platform.server.touched p)) [
+      elim (cases_Bool (is_among platform.server.pending p)) [
         | inl e ↦ rw e at (sym (gives p) ∙ is)
         | inr e ↦ sym (h.settled.offers slot table p had e) ∙ (rw e at (sym (gives p) ∙ is))
       ] in
       offer-fits (domain_of platform.roster) (announced_at platform.server.announcements p) platform.server.edges slot octets (λ e l is. h.settled.canonical.each e p l is) offered
 
   in_form : (slot : ℕ) (table new : Table) (ps : List IpPrefix) → table_of platform.server slot ≡ Some table
-      → ((q : IpPrefix) → get_at same_prefix q new ≡ cond (is_among platform.server.touched q) (offer (domain_of platform.roster) (announced_at platform.server.announcements q) platform.server.edges slot) (get_at same_prefix q table))
+      → ((q : IpPrefix) → get_at same_prefix q new ≡ cond (is_among platform.server.pending q) (offer (domain_of platform.roster) (announced_at platform.server.announcements q) platform.server.edges slot) (get_at same_prefix q table))
       → AllByRecursion IsPrefix ps → AllByRecursion (FitsAt (Some new)) ps
   in_form slot table new [] had gives forms = tt
   in_form slot table new (p ∷ ps) had gives forms =
@@ -78,25 +78,25 @@ module _ (codec : CellUpdates) (platform : Platform) (outs : List OutRecord) (la
 
   -- the octets so far and the UPDATEs of the changed cells replay to the new table
   replays_on : (octets : List ℕ) (slot : ℕ) (table new : Table) → Replays octets table → table_of platform.server slot ≡ Some table
-      → ((q : IpPrefix) → get_at same_prefix q new ≡ cond (is_among platform.server.touched q) (offer (domain_of platform.roster) (announced_at platform.server.announcements q) platform.server.edges slot) (get_at same_prefix q table))
-      → Replays (octets ++ concat (changed_cells platform.server.touched (Some table) (Some new))) new
+      → ((q : IpPrefix) → get_at same_prefix q new ≡ cond (is_among platform.server.pending q) (offer (domain_of platform.roster) (announced_at platform.server.announcements q) platform.server.edges slot) (get_at same_prefix q table))
+      → Replays (octets ++ concat (changed_cells platform.server.pending (Some table) (Some new))) new
   replays_on octets slot table new before had gives =
-      let forms = in_form slot table new platform.server.touched had gives h.settled.touched in
-      let cells = changed_cells platform.server.touched (Some table) (Some new) in
+      let forms = in_form slot table new platform.server.pending had gives h.settled.pending in
+      let cells = changed_cells platform.server.pending (Some table) (Some new) in
       record {
         messages = before.messages ++ cells;
         whole = ap (λ (l : List ℕ). l ++ concat cells) before.whole ∙ sym (concat-append before.messages cells);
-        each = all-append IsMessage before.messages cells before.each (cells-whole codec platform.server.touched (Some table) (Some new) forms);
+        each = all-append IsMessage before.messages cells before.each (cells-whole codec platform.server.pending (Some table) (Some new) forms);
         gives = λ q. rw (after_messages-append before.messages cells [])
-            (cells-effect codec platform.server.touched (Some table) (Some new) (after_messages before.messages []) q forms
-            (elim (cases_Bool (is_among platform.server.touched q)) [
+            (cells-effect codec platform.server.pending (Some table) (Some new) (after_messages before.messages []) q forms
+            (elim (cases_Bool (is_among platform.server.pending q)) [
               | inl e ↦ inr (before.gives q, e)
               | inr e ↦ inl (before.gives q ∙ sym (gives q ∙ rw e refl))
             ]));
       }
 
   tells-drained : (octets : List ℕ) (found : Option ℕ) → Tells octets platform.server found
-      → Tells (octets ++ concat (slot_cells platform.server.touched platform.server (drained_server platform) found)) (drained_server platform) found
+      → Tells (octets ++ concat (slot_cells platform.server.pending platform.server (drained_server platform) found)) (drained_server platform) found
   tells-drained octets None tells = rw (append-nil octets) tells
   tells-drained octets (Some slot) tells =
       let new = work.tables slot tells.0 tells.1 in (
@@ -107,17 +107,17 @@ module _ (codec : CellUpdates) (platform : Platform) (outs : List OutRecord) (la
 
   kept-drained : Kept (drain platform) (outs ++ drain_output platform) last
   kept-drained = record {
-    settled = settled-all (domain_of platform.roster) (work_events platform.server.touched) platform.server (work-good platform.server.touched) h.settled;
+    settled = settled-all (domain_of platform.roster) (work_events platform.server.pending) platform.server (work-good platform.server.pending) h.settled;
     distinct = h.distinct;
     seats = h.seats;
     are_open = h.are_open;
     octets = h.octets;
     told = λ n s is.
-        rw (all_sent n, sent_to-drained n s platform.server.touched platform.server (drained_server platform) platform.connections h.distinct is)
+        rw (all_sent n, sent_to-drained n s platform.server.pending platform.server (drained_server platform) platform.connections h.distinct is)
         (tells-drained (sent_to n outs) (slot_in s.phase) (h.told n s is));
     absent = h.absent;
     unsent = λ n above.
-        all_sent n ∙ rw (sent_to-absent n platform.server.touched platform.server (drained_server platform) platform.connections (h.absent n above), h.unsent n above) refl;
+        all_sent n ∙ rw (sent_to-absent n platform.server.pending platform.server (drained_server platform) platform.connections (h.absent n above), h.unsent n above) refl;
   } where
     all_sent : (n : ℕ) → sent_to n (outs ++ drain_output platform) ≡ sent_to n outs ++ sent_to n (drain_messages platform)
     all_sent n =
@@ -161,9 +161,9 @@ kept-run codec platform outs last (item ∷ items) small rises h =
 kept-fresh : (roster : RosterOf) → Kept (fresh roster) [] 0
 kept-fresh roster = record {
   settled = record {
-    offers = λ slot table p is untouched. absurd (none_some is);
+    offers = λ slot table p is not_pending. absurd (none_some is);
     canonical = record { each = λ slot p octets is. absurd (none_some is) };
-    touched = tt;
+    pending = tt;
     announced = tt;
   };
   distinct = tt;
@@ -197,7 +197,7 @@ run-roster platform [] = refl
 run-roster platform (item ∷ items) = run-roster (step platform item) items ∙ step-roster platform item
 
 pub headline-holds : CellUpdates → (roster : RosterOf) (items : List FeedRecord) → AllByRecursion HasOctets items → NumbersRise 0 items → Headline roster items
-headline-holds codec roster items small rises number slot p on untouched =
+headline-holds codec roster items small rises number slot p on not_pending =
     by_session (get_at same_number number platform.connections) refl on where
       platform : Platform
       platform = platform_after (fresh roster) items
@@ -210,7 +210,7 @@ headline-holds codec roster items small rises number slot p on untouched =
           → get_at same_prefix p (replay (sent_to number (all_output (fresh roster) items))) ≡ offer (domain_of roster) (announced_at platform.server.announcements p) platform.server.edges slot
       by_table tells =
           Replays-replay codec (sent_to number (all_output (fresh roster) items)) tells.0 p tells.2
-          ∙ kept.settled.offers slot tells.0 p tells.1 untouched
+          ∙ kept.settled.offers slot tells.0 p tells.1 not_pending
           ∙ ap (λ (r : RosterOf). offer (domain_of r) (announced_at platform.server.announcements p) platform.server.edges slot) (run-roster (fresh roster) items)
 
       by_session : (found : Option SessionState) → get_at same_number number platform.connections ≡ found → slot_of_session found ≡ Some slot

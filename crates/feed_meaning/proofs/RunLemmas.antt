@@ -7,7 +7,7 @@ use Rattle.rcp_base.specs.IpPrefix.{IpPrefix, IsPrefix}
 use Rattle.rcp_model.specs.Maps.{get_at, set_at, same_prefix, is_among}
 use Rattle.rcp_model.specs.Messages.{IsMessage, messages_in}
 use Rattle.rcp_model.specs.Updates.{Table, after_message, after_messages, replay}
-use Rattle.rcp_model.specs.Control.{Domain, Server, Work, same_octets, table_of, offer, after, after_all, announced_at}
+use Rattle.rcp_model.specs.RouteServer.{Domain, Server, Work, same_octets, table_of, offer, after, after_all, announced_at}
 use Rattle.feed_meaning.specs.Platform.{cell_update, cell_of, changed_cells, work_events}
 use Rattle.rcp_base.proofs.MapLemmas.{get_at-set_at_same, get_at-set_at_other, same_prefix-is, same_prefix-other, prefix_test}
 use Rattle.rcp_model.proofs.ServerLemmas.{worked-table}

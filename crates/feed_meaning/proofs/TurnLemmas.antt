@@ -10,7 +10,7 @@ use Rattle.rcp_model.specs.Maps.{get_at, set_at, same_prefix}
 use Rattle.rcp_model.specs.Messages.{IsMessage}
 use Rattle.rcp_model.specs.Updates.{Table, Sections, sections_of, after_message, after_messages}
 use Rattle.rcp_model.specs.LinkState.{same_number}
-use Rattle.rcp_model.specs.Control.{Server, table_of, after_all}
+use Rattle.rcp_model.specs.RouteServer.{Server, table_of, after_all}
 use Rattle.rcp_model.specs.Sessions.{Ending, Phase, OpenSent, Claiming, OpenConfirm, Established, Closed, SessionState, is_closed, seat_of, slot_in}
 use Rattle.rcp_model.specs.Telling.{IsTold, AreOctets}
 use Rattle.feed_meaning.specs.Platform.{Connections, Platform, domain_of, Turn, server_event, seat_events, turn_events, if_open, after_turn, MESSAGE, messages_to, end_record, turn_output, sent_to}

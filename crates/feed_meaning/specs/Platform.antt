@@ -14,7 +14,7 @@ use Rattle.rcp_model.specs.Updates.{Table, update_octets, replay}
 use Rattle.rcp_model.specs.Edges.{rising_edges}
 use Rattle.rcp_model.specs.Sessions.{Reason, Faulted, Received, Ended, SeatTaken, Ending, SessionEvent, Announce, Withdraw, Doing, Phase, SessionState, seat_of, slot_in, Answer, Input, Octets, Seat, Moment, End, answer, begun, begun_established, is_closed, seat_taken, stepped, then_also}
 use Rattle.rcp_model.specs.Sessions as session
-use Rattle.rcp_model.specs.Control.{Domain, Server, ServerEvent, Up, Down, Change, Work, after_all, table_of, announced_prefixes, same_octets, is_touched, announced_at, offer}
+use Rattle.rcp_model.specs.RouteServer.{Domain, Server, ServerEvent, Up, Down, Change, Work, after_all, table_of, announced_prefixes, same_octets, is_pending, announced_at, offer}
 
 -- ---- the state
 
@@ -39,7 +39,7 @@ fresh roster = record {
   roster = roster;
   connections = [];
   moment = 0;
-  server = record { tables = []; announcements = []; touched = []; edges = rising_edges roster.links };
+  server = record { tables = []; announcements = []; pending = []; edges = rising_edges roster.links };
   updates = 0;
 }
 
@@ -221,14 +221,14 @@ summary server updates = record {
 -- ---- the step
 
 abbrev pub work_events : List IpPrefix → List ServerEvent
-work_events touched = map Work touched
+work_events pending = map Work pending
 
--- every touched prefix is worked
+-- every pending prefix is worked
 abbrev pub drained_server : Platform → Server
-drained_server platform = after_all (domain_of platform.roster) (work_events platform.server.touched) platform.server
+drained_server platform = after_all (domain_of platform.roster) (work_events platform.server.pending) platform.server
 
 abbrev pub drain_messages : Platform → List OutRecord
-drain_messages platform = drained platform.server.touched platform.server (drained_server platform) platform.connections
+drain_messages platform = drained platform.server.pending platform.server (drained_server platform) platform.connections
 
 -- the count of UPDATEs stands still at the greatest that eight octets hold
 abbrev pub drain : Platform → Platform
@@ -284,6 +284,6 @@ Headline roster items =
     let platform = platform_after (fresh roster) items in
     let outs = all_output (fresh roster) items in
     (number slot : ℕ) (p : IpPrefix) → slot_on platform.connections number ≡ Some slot
-    → is_touched platform.server p ≡ false
+    → is_pending platform.server p ≡ false
     → cell_of (Some (replay (sent_to number outs))) p
     ≡ offer (domain_of roster) (announced_at platform.server.announcements p) platform.server.edges slot

@@ -8,7 +8,7 @@ use Rattle.rcp_model.specs.Updates.{sections_of, prefix_size, update_fault, chan
 use Rattle.rcp_model.specs.Edges.{edges_of}
 use Rattle.rcp_model.specs.Costs.{cost_through}
 use Rattle.rcp_model.specs.Decision.{tied, choice}
-use Rattle.rcp_model.specs.Control.{slot_cost, candidates, choice_of, offer, after, after_all}
+use Rattle.rcp_model.specs.RouteServer.{slot_cost, candidates, choice_of, offer, after, after_all}
 use Rattle.rcp_model.specs.Sessions.{handle, handle_all, course_of, tick, answer, answers, begun, begun_established}
 use Rattle.feed_meaning.specs.Platform.{fresh, step, output, platform_after, all_output}
 use Rattle.meaning_cases.specs.Examples.{A, B, link, linked, tie, tie_output}

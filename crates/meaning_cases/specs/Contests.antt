@@ -4,7 +4,7 @@ use Rattle.rcp_base.specs.IpPrefix.{IpPrefix}
 use Rattle.rcp_base.specs.declared.names.Member.{Member}
 use Rattle.rcp_model.specs.declared.event.Edge.{Edge}
 use Rattle.rcp_model.specs.Decision.{Contender}
-use Rattle.rcp_model.specs.Control.{Domain, Announcements}
+use Rattle.rcp_model.specs.RouteServer.{Domain, Announcements}
 use Rattle.meaning_cases.specs.Examples.{A, B, C, member, link}
 
 -- the routers A, B and C, in the slots 0, 1 and 2

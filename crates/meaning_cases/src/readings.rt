@@ -3,7 +3,7 @@
 ghost use Rattle.std.specs.Prelude.{◌≡◌, [], ◌∷◌, Some, None};
 ghost use Rattle.meaning_cases.specs.Examples.{A, C};
 ghost use Rattle.rcp_model.specs.Decision.{tied, choice};
-ghost use Rattle.rcp_model.specs.Control.{announced_at, slot_cost, candidates, offer};
+ghost use Rattle.rcp_model.specs.RouteServer.{announced_at, slot_cost, candidates, offer};
 ghost use Rattle.meaning_cases.specs.Contests.{F, chain, chain_domain, C_is_nearer, C_is_alone, route_by, prefix, attributes_by, by_A, by_A_and_C};
 
 /// Of two routes that are alike, B chooses C's, which is nearer, though A has the lower identifier. With ties broken by

@@ -185,7 +185,7 @@ any_filter u v h (w ∷ ws) =
       | inr e ↦ rw e (ap (λ (b : Bool). same_value w v || b) (any_filter u v h ws))
     ]
 
-each_once-any : (v : Value) (vs : List Value) → list_any (λ w. same_value w v) (each_once vs) ≡ list_any (λ w. same_value w v) vs
+pub each_once-any : (v : Value) (vs : List Value) → list_any (λ w. same_value w v) (each_once vs) ≡ list_any (λ w. same_value w v) vs
 each_once-any v [] = refl
 each_once-any v (u ∷ vs) =
     elim (cases_Bool (same_value u v)) [
@@ -376,7 +376,7 @@ groups-filled cells are = filled_groups cells (can_send cells are) (each_once (N
 
 -- ---- the order of the groups
 
-same_value-other : (v w : Value) → same_value v w ≡ false → same_value w v ≡ false
+pub same_value-other : (v w : Value) → same_value v w ≡ false → same_value w v ≡ false
 same_value-other v w h =
     elim (cases_Bool (same_value w v)) [
       | inl e ↦ let k : w ≡ v = same_value-is w v e in
@@ -438,7 +438,7 @@ by_least (cell ∷ cells) h =
     (All-weaker (λ (w : Value). test w ≡ true) (Before (cell ∷ cells) cell.1) (before-own cell cells h) (filter test values) passes)
     (λ i j d lt within. before-more cell cells _ _ (passes i d (omega arith)) (passes j d within) (rest i j d lt within))
 
-map-pairs : {X Y : Type 0} (R : Y → Y → Type 0) (f : X → Y) (from : Y → X) (xs : List X) → AllPairs (λ a b. R (f a) (f b)) xs → AllPairs R (map f xs)
+pub map-pairs : {X Y : Type 0} (R : Y → Y → Type 0) (f : X → Y) (from : Y → X) (xs : List X) → AllPairs (λ a b. R (f a) (f b)) xs → AllPairs R (map f xs)
 map-pairs R f from xs h i j d lt within =
     let inside : j < length xs = omega (arith, length-map xs f) in
     subst (λ y. R y (slice_index_or (map f xs) j d)) (sym (get_or-map f xs i (from d) d (omega arith)))

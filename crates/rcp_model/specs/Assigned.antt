@@ -5,7 +5,7 @@ use Rattle.rcp_base.specs.IpPrefix.{IpPrefix, prefix_cmp}
 use Rattle.rcp_model.specs.declared.event.Edge.{Edge}
 use Rattle.rcp_model.specs.Costs.{IsTwoWay}
 use Rattle.rcp_model.specs.Graphs.{IsGraph, AreMembers}
-use Rattle.rcp_model.specs.Control.{Domain, Announced, offer}
+use Rattle.rcp_model.specs.RouteServer.{Domain, Announced, offer}
 
 -- ---- the least prefix of some
 

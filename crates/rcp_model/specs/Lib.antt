@@ -12,7 +12,7 @@ pub mod Edges
 pub mod Costs
 pub mod Graphs
 pub mod Decision
-pub mod Control
+pub mod RouteServer
 pub mod Assigned
 pub mod Pending
 pub mod Rosters

@@ -9,7 +9,7 @@ use Rattle.rcp_base.specs.IpPrefix.{IpPrefix, prefix_cmp}
 use Rattle.rcp_model.specs.declared.event.Edge.{Edge}
 use Rattle.rcp_model.specs.Maps.{get_at, same_prefix}
 use Rattle.rcp_model.specs.Updates.{Table}
-use Rattle.rcp_model.specs.Control.{Domain, Announced, Place, Server, ServerEvent, Up, Down, Change, Links, Work, same_octets, cost_differs, offer}
+use Rattle.rcp_model.specs.RouteServer.{Domain, Announced, Place, Server, ServerEvent, Up, Down, Change, Links, Work, same_octets, cost_differs, offer}
 use Rattle.rcp_model.specs.Assigned.{IsSettled}
 use Rattle.rcp_model.specs.Ribs.{RibKey, rib_cmp, prefix_code}
 
@@ -57,8 +57,8 @@ with_each p octets (slot ∷ slots) rib = with_octets (p, slot) (octets slot) (w
 abbrev pub is_up : Ribs → ℕ → Bool
 is_up ribs slot = set_of.contains ribs.connected slot
 
-abbrev pub is_pending : Ribs → IpPrefix → Bool
-is_pending ribs p = set_of.contains ribs.pending p
+abbrev pub has_pending : Ribs → IpPrefix → Bool
+has_pending ribs p = set_of.contains ribs.pending p
 
 -- what a slot is offered at a prefix
 abbrev pub offered : Domain → Ribs → IpPrefix → ℕ → Option (List ℕ)
@@ -67,7 +67,7 @@ offered domain ribs p slot = offer domain (at_prefix ribs.announced p) ribs.edge
 -- each connected slot was given what it is offered at each prefix that isn't pending
 abbrev pub AreSettled : Domain → Ribs → Type 0
 AreSettled domain ribs =
-    IsSettled domain ribs.edges (is_up ribs) (at_prefix ribs.announced) (at_prefix ribs.given) (is_pending ribs)
+    IsSettled domain ribs.edges (is_up ribs) (at_prefix ribs.announced) (at_prefix ribs.given) (has_pending ribs)
 
 -- what each event does: the same as to the server of lists
 unfoldable pub ribs_after : Domain → ServerEvent → Ribs → Ribs
@@ -139,7 +139,7 @@ ribs_of server = record {
   connected = set_of.from_list (map (λ entry. entry.0) server.tables);
   announced = map_of.from_entries (map by_prefix server.announcements);
   given = rib_of_tables server.tables;
-  pending = set_of.from_list server.touched;
+  pending = set_of.from_list server.pending;
   edges = server.edges;
 }
 

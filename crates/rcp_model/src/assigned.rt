@@ -19,7 +19,7 @@ pub trait Assigned: Costs {
     ghost use Rattle.std.specs.Int.{w16};
     ghost use Rattle.rcp_base.specs.IpPrefix.{IpPrefix};
     ghost use Rattle.rcp_model.specs.Routes.{route_in};
-    ghost use Rattle.rcp_model.specs.Control.{Announced};
+    ghost use Rattle.rcp_model.specs.RouteServer.{Announced};
     ghost use Rattle.rcp_model.specs.Assigned.{IsNextAnnounced, IsAssignment};
 
     /// The local AS.

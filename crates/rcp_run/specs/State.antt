@@ -11,8 +11,8 @@ use Rattle.rcp_model.specs.LinkState.{same_number}
 use Rattle.rcp_model.specs.Edges.{rising_edges}
 use Rattle.rcp_model.specs.declared.event.Edge.{Edge}
 use Rattle.rcp_model.specs.Costs.{Walk}
-use Rattle.rcp_model.specs.Control.{Place, Announcements, same_place, same_octets, router_at, announced_at, offer}
-use Rattle.rcp_model.specs.Control as control
+use Rattle.rcp_model.specs.RouteServer.{Place, Announcements, same_place, same_octets, router_at, announced_at, offer}
+use Rattle.rcp_model.specs.RouteServer as control
 use Rattle.rcp_model.specs.Updates.{Table}
 use Rattle.rcp_model.specs.Sessions.{SessionState, slot_in}
 use Rattle.rcp_model.specs.Telling.{AreOctets, IsRouteOf}
@@ -50,7 +50,7 @@ abbrev pub server_in : List Edge → Server → control.Server
 server_in links server = record {
   tables = tables_in server.tables.items;
   announcements = announcements_in server.announcements.items;
-  touched = server.touched.items;
+  pending = server.pending.items;
   edges = rising_edges links;
 }
 
@@ -82,7 +82,7 @@ IsRising (p ∷ ps) = AllByRecursion (λ q. is_before p q ≡ true) ps × IsRisi
 
 pub record IsServer (as_number : ℕ) (server : Server) : Type 0 where
   pub routes : AllByRecursion (IsKept as_number) server.announcements.items
-  pub rising : IsRising server.touched.items
+  pub rising : IsRising server.pending.items
 
 -- a session for which there was memory so far, and which keeps octets
 pub record IsWhole (c : Connection) : Type 0 where

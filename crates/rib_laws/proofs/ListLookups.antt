@@ -1,5 +1,5 @@
 -- What the server of lists answers, and that what it comes to answers the same.
-use Rattle.std.proofs.Common.{◌≡◌, ℕ, Bool, true, false, cond, not, ◌&&◌, ◌||◌, eqb, List, [], ◌∷◌, map, Option, Some, None, is_some, IsSome, option_map, refl, sym, ap, ◌∙◌, inl, inr, subst}
+use Rattle.std.proofs.Common.{◌≡◌, ℕ, Bool, true, false, cond, ◌&&◌, ◌||◌, eqb, List, [], ◌∷◌, map, Option, Some, None, is_some, IsSome, option_map, refl, sym, ap, ◌∙◌, inl, inr, subst}
 use Rattle.std.specs.Prelude.{filter}
 use Rattle.std.specs.FinMap as map_of
 use Rattle.std.specs.FinSet as set_of
@@ -7,19 +7,18 @@ use Rattle.std.specs.List.{list_any}
 use Rattle.std.specs.Ordering.{nat_cmp, eq_by_cmp}
 use Rattle.std.specs.Cmp.{unsigned_tied}
 use Rattle.std.proofs.lemmas.Cmp.{nat_cmp_total}
-use Rattle.std.proofs.lemmas.Bool.{cases_Bool, and_parts, or_cases, or_left, or_right, eqb-true, eq-eqb, false≢true, both_ways}
+use Rattle.std.proofs.lemmas.Bool.{cases_Bool, and_parts, or_cases, or_left, or_right, eqb-true, eq-eqb, false≢true}
 use Rattle.rcp_base.specs.IpPrefix.{IpPrefix, prefix_cmp}
 use Rattle.rcp_model.specs.declared.event.Edge.{Edge}
 use Rattle.rcp_model.specs.Maps.{get_at, put_at, set_at, without, same_prefix, is_among}
 use Rattle.rcp_model.specs.LinkState.{same_number}
 use Rattle.rcp_model.specs.Updates.{Table}
-use Rattle.rcp_model.specs.Control.{Domain, Place, Announcements, Server, same_place, announced_by, announced_at, announced_prefixes, table_of, is_connected, is_touched, offer, worked}
+use Rattle.rcp_model.specs.RouteServer.{Domain, Place, Announcements, Server, same_place, announced_by, announced_at, announced_prefixes, is_connected, is_pending, offer, worked}
 use Rattle.rcp_model.specs.Ribs.{RibKey, rib_cmp}
-use Rattle.rcp_model.specs.ServerRibs.{Rib, Ribs, at_prefix, without_slot, with_table, rib_of_tables, cell_in, by_prefix, ribs_of, prefixes_of, is_up, is_pending}
-use Rattle.rcp_base.proofs.MapLemmas.{IsKeyTest, get_at-put_at_same, get_at-put_at_other, get_at-without_passed, get_at-without_left, same_prefix-is, same_prefix-itself}
-use Rattle.rcp_model.proofs.ServerLemmas.{number_test, place_test}
+use Rattle.rcp_model.specs.ServerRibs.{Rib, at_prefix, with_table, rib_of_tables, cell_in, by_prefix, ribs_of, prefixes_of, is_up, has_pending}
+use Rattle.rcp_base.proofs.MapLemmas.{IsKeyTest, get_at-put_at_same, get_at-put_at_other, get_at-without_passed, get_at-without_left}
 use Rattle.rcp_model.proofs.RibLemmas.{prefix_total, rib_total}
-use Rattle.rib_laws.proofs.RibLookups.{same_test, prefix_tied, key_tied, get-without_slot, Has, has_of_prefixes, prefixes_of_has}
+use Rattle.rib_laws.proofs.RibLookups.{same_test, prefix_tied, key_tied, get-without_slot, has_of_prefixes, prefixes_of_has}
 
 -- ---- maps as lists
 
@@ -111,8 +110,8 @@ pub among_tied : (ps : List IpPrefix) (p : IpPrefix) → list_any (eq_by_cmp pre
 among_tied [] p = refl
 among_tied (q ∷ ps) p = λ i. prefix_tied p q i || among_tied ps p i
 
-pub pending_in_lists : (server : Server) (p : IpPrefix) → is_pending (ribs_of server) p ≡ is_touched server p
-pending_in_lists server p = set_of.contains-from_list prefix_total server.touched p ∙ among_tied server.touched p
+pub pending_in_lists : (server : Server) (p : IpPrefix) → has_pending (ribs_of server) p ≡ is_pending server p
+pending_in_lists server p = set_of.contains-from_list prefix_total server.pending p ∙ among_tied server.pending p
 
 -- ---- the prefixes of some slots' announcements
 

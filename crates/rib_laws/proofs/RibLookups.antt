@@ -1,5 +1,5 @@
 -- What the bases of routes answer after each of their functions.
-use Rattle.std.proofs.Common.{◌≡◌, ℕ, Bool, true, false, cond, not, ◌&&◌, ◌||◌, eqb, List, [], ◌∷◌, map, Option, Some, None, is_some, IsSome, refl, sym, ap, ◌∙◌, inl, inr, subst}
+use Rattle.std.proofs.Common.{◌≡◌, ℕ, Bool, true, false, cond, not, ◌&&◌, ◌||◌, eqb, List, [], ◌∷◌, map, Option, Some, None, is_some, IsSome, refl, sym, ap, ◌∙◌, inl, inr}
 use Rattle.std.specs.FinMap as map_of
 use Rattle.std.specs.FinSet as set_of
 use Rattle.std.specs.List.{list_any}
@@ -7,12 +7,12 @@ use Rattle.std.specs.Ordering.{nat_cmp, eq_by_cmp, is_eq, ordering_then}
 use Rattle.std.specs.declared.cmp.Ordering.{Ordering}
 use Rattle.std.specs.declared.cmp.Ordering.TheVariants.{Less, Equal, Greater}
 use Rattle.std.specs.Cmp.{unsigned_tied}
-use Rattle.std.proofs.lemmas.Bool.{cases_Bool, and_parts, and_from, or_cases, or_left, or_right, eqb-true, eq-eqb, false≢true, both_ways}
+use Rattle.std.proofs.lemmas.Bool.{and_parts, and_from, or_cases, or_left, or_right, eqb-true, eq-eqb, false≢true}
 use Rattle.rcp_base.specs.IpPrefix.{IpPrefix, prefix_cmp}
 use Rattle.rcp_model.specs.Maps.{same_prefix}
-use Rattle.rcp_model.specs.Control.{Announced}
+use Rattle.rcp_model.specs.RouteServer.{Announced}
 use Rattle.rcp_model.specs.Ribs.{RibKey, rib_cmp}
-use Rattle.rcp_model.specs.ServerRibs.{Rib, Prefixes, at_prefix, with_octets, without_slot, prefixes_of, with_each}
+use Rattle.rcp_model.specs.ServerRibs.{Rib, with_octets, without_slot, prefixes_of, with_each}
 use Rattle.rcp_model.proofs.RibLemmas.{prefix_total, rib_total, rib_exact, rib_tied}
 
 -- ---- tests

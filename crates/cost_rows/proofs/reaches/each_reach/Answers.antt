@@ -1,6 +1,6 @@
 use Rattle.std.proofs.Common.{[], ◌∷◌, map, sym, ◌∙◌, ap, subst, Some, ◌≡◌, ℕ}
 use Rattle.std.proofs.lemmas.List.{map-append}
-use Rattle.rcp_model.specs.Control.{router_at}
+use Rattle.rcp_model.specs.RouteServer.{router_at}
 use Rattle.cost_rows.specs.Views.{IsReach, ReachOf}
 use Rattle.cost_rows.proofs.ReachLemmas.{place_named, each_step}
 use Rattle.cost_rows.proofs.reaches.each_reach.Goals as goal

@@ -20,10 +20,10 @@ messages c =
     ∙ ap (λ l. records_told l (connections_in e.connections.items)) c.in_ok-told.ensures.told
     ∙ records_are (platform_in e) c.requires.server.rising
 
-drains : (c : goal.After-drop-told-2) → (let new : Engine = record c.args.self.now { server = record { tables = c.work.new.server.tables; announcements = c.work.new.server.announcements; touched = c.clear.new.self }; updates = c.saturating_add-self.result } in platform_in new) ≡ drain (platform_in c.args.self.now)
+drains : (c : goal.After-drop-told-2) → (let new : Engine = record c.args.self.now { server = record { tables = c.work.new.server.tables; announcements = c.work.new.server.announcements; pending = c.clear.new.self }; updates = c.saturating_add-self.result } in platform_in new) ≡ drain (platform_in c.args.self.now)
 drains c =
     let e = c.args.self.now in
-    let new : Engine = record e { server = record { tables = c.work.new.server.tables; announcements = c.work.new.server.announcements; touched = c.clear.new.self }; updates = c.saturating_add-self.result } in
+    let new : Engine = record e { server = record { tables = c.work.new.server.tables; announcements = c.work.new.server.announcements; pending = c.clear.new.self }; updates = c.saturating_add-self.result } in
     drain_is (platform_in e) c.requires.server.rising (platform_in new) refl refl refl c.in_ok-told.ensures.tables (ap (λ (v : Vec Announcement Global). announcements_in v.items) c.in_ok-told.ensures.announcements) c.clear.ensures.items refl
     (c.saturating_add-self.ensures ∙ ap (λ (n : ℕ). min (e.updates + n) (2 ^ 64 - 1)) (c.len.ensures ∙ c.in_ok-out.out.ok.0 ∙ ap length (messages c)))
 
@@ -32,5 +32,5 @@ returns-clause-platform c = drains c
 
 pub returns-clause-output : goal.returns-clause-output
 returns-clause-output c =
-    c.in_ok-summarize.ensures.records ∙ ap (λ (l : List OutRecord). l ++ summary (server_in c.args.self.now.roster.links (let s : Server = record { tables = c.work.new.server.tables; announcements = c.work.new.server.announcements; touched = c.clear.new.self } in s)) c.saturating_add-self.result ∷ []) (messages c)
+    c.in_ok-summarize.ensures.records ∙ ap (λ (l : List OutRecord). l ++ summary (server_in c.args.self.now.roster.links (let s : Server = record { tables = c.work.new.server.tables; announcements = c.work.new.server.announcements; pending = c.clear.new.self } in s)) c.saturating_add-self.result ∷ []) (messages c)
     ∙ ap (λ (q : Platform). drain_messages (platform_in c.args.self.now) ++ summary q.server q.updates ∷ []) (drains c)
