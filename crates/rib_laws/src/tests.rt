@@ -1,8 +1,10 @@
-ghost use Rattle.std.specs.Prelude.{◌≡◌};
+ghost use Rattle.std.specs.Prelude.{◌≡◌, []};
+ghost use Rattle.rcp_model.specs.ServerRibs.{empty_ribs};
 
 use crate::assigned::assigned_route;
 use rcp_base::{Addr, Prefix, RouterId, Slot};
 use rcp_model::{Assigned, Costs, Edge, Route};
+use std::marker::Model;
 
 /// A roster of one router, which isn't connected.
 struct Lone;
@@ -83,4 +85,33 @@ fn lone_router_is_given_nothing(rt: HostRuntime) {
             assert!(rt; assigned_route(&Lone, Slot(0), p).is_none());
         }
     }
+}
+
+/// A server to which nothing has happened, whose value is its finite maps.
+#[derive(Drop)]
+struct Idle {
+    shards: u16,
+}
+
+impl Model for Idle {
+    ghost use Rattle.std.specs.Prelude.{[]};
+    ghost use Rattle.rcp_model.specs.ServerRibs.{Ribs, empty_ribs, ribs_code};
+
+    ghost Value = { Ribs };
+
+    ghost coded = { ribs_code };
+
+    ghost view = { λ _. empty_ribs [] };
+}
+
+fn make_idle(shards: u16) -> Idle
+    ensures { result ≡ empty_ribs [] }
+{
+    Idle { shards }
+}
+
+#[test]
+fn bases_of_routes_are_a_value(rt: HostRuntime) {
+    let idle = make_idle(3);
+    assert!(rt; idle.shards == 3);
 }
