@@ -22,18 +22,22 @@ pub struct NumberedCell {
     pub number: Option<u32>,
 }
 
-/// The UPDATEs of cells.
+/// The UPDATEs of cells, as `pack` gives them of offers. `attrs` has the attribute octets of each number: no two numbers have the
+/// same octets, so that the numbers tell the groups, and none has more than 4,068.
+///
+/// `NoMemory` where there is no room for the groups or the messages. It takes time and memory for each cell and each number, and no
+/// octets are compared.
 pub fn pack_numbered(
     alloc: Global,
     cells: &[NumberedCell],
     attrs: &[&[u8]],
 ) -> Result<Vec<Vec<u8>>, NoMemory>
-    requires rising { AllPairs (λ a b. IsTrue (is_before a.prefix b.prefix)) cells.now }
     requires numbered { All (λ cell. IfSome cell.number (λ n. n < length attrs.now)) cells.now }
     requires distinct { AreDistinct attrs.now }
     requires short { All (λ octets. length octets.now ≤ 4068) attrs.now }
     ensures packed { IfOk result (λ messages. map (λ m. m.items) messages.items ≡ packed (map (numbered_cell attrs.now) cells.now)) }
-    ensures carried { IfOk result (λ messages. Carries (map (λ m. m.items) messages.items) (map (numbered_cell attrs.now) cells.now)) }
+    ensures carried { IfOk result (λ messages. AllPairs (λ a b. IsTrue (is_before a.prefix b.prefix)) cells.now
+        → Carries (map (λ m. m.items) messages.items) (map (numbered_cell attrs.now) cells.now)) }
 {
     let mut groups = no_groups(alloc)?;
     let mut places = vec![in alloc; 0; attrs.len()]?;

@@ -19,11 +19,16 @@ use rcp_model::Offer;
 use std::alloc::Global;
 use std::collections::HashMap;
 
-/// The UPDATEs of offers.
+/// The UPDATEs of offers: first those that withdraw, then those that announce, in groups of equal attribute octets by the least
+/// prefix of each. Each UPDATE has as many prefixes of its group as 4,096 octets hold (RFC 4271 section 4.1), and stands in a vector
+/// of its own. Where the prefixes rise, the UPDATEs replayed after any table give each offer, and leave other prefixes.
+///
+/// `NoMemory` where there is no room for the groups or the messages. It takes the time of one look-up in a hash map for each offer
+/// whose attributes aren't those of the offer before.
 pub fn pack(alloc: Global, offers: &[Offer]) -> Result<Vec<Vec<u8>>, NoMemory>
-    requires { AllPairs (λ a b. IsTrue (is_before a.prefix b.prefix)) offers.now }
     ensures packed { IfOk result (λ messages. map (λ m. m.items) messages.items ≡ packed (map cell_of offers.now)) }
-    ensures carried { IfOk result (λ messages. Carries (map (λ m. m.items) messages.items) (map cell_of offers.now)) }
+    ensures carried { IfOk result (λ messages. AllPairs (λ a b. IsTrue (is_before a.prefix b.prefix)) offers.now
+        → Carries (map (λ m. m.items) messages.items) (map cell_of offers.now)) }
 {
     let mut groups = no_groups(alloc)?;
     let mut places = HashMap::new(alloc);

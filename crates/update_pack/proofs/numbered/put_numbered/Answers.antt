@@ -66,4 +66,4 @@ returns-clause-placed c =
     let end : c.len.result ≡ length gs = c.len.ensures ∙ c.args.groups.now.ok.0 ∙ sym (length-map c.args.groups.now.items group_in) in
     subst (AreNumbered (set c.args.places.now.items n c.len.result) c.args.attrs.now) (sym grown)
     (subst (λ k. AreNumbered (set c.args.places.now.items n k) c.args.attrs.now (gs ++ (Some (octets_at c.args.attrs.now n), c.args.cell.now.prefix ∷ []) ∷ [])) (sym end)
-      (numbered-new c.args.places.now.items c.args.attrs.now gs c.requires.placed c.args.cell.now.prefix c.requires.distinct n within e))
+    (numbered-new c.args.places.now.items c.args.attrs.now gs c.requires.placed c.args.cell.now.prefix c.requires.distinct n within e))

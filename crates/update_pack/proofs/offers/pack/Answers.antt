@@ -46,7 +46,7 @@ returns-clause-packed c =
 pub returns-clause-carried : goal.returns-clause-carried
 returns-clause-carried c =
     IfOk-weaker c.write_groups.result _ _
-    (λ messages e. grouped-carries cell_of c.args.offers.now c.loop-offer.offer-index (groups_in c.loop-offer.groups.items) c.loop-offer.invariant.0 c.loop-offer-test.false
-    (λ (cell : Cell). let o : OfferFields = record { generation = 0; prefix = cell.0; attrs = cell.1 } in o) _ c.requires
+    (λ messages e rising. grouped-carries cell_of c.args.offers.now c.loop-offer.offer-index (groups_in c.loop-offer.groups.items) c.loop-offer.invariant.0 c.loop-offer-test.false
+    (λ (cell : Cell). let o : OfferFields = record { generation = 0; prefix = cell.0; attrs = cell.1 } in o) _ rising
     (e ∙ ap (λ (l : List Group). flat_map group_updates (groups_in l)) c.as_slice.ensures.value))
     c.write_groups.ensures
