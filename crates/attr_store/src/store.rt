@@ -1,4 +1,4 @@
-//! The store.
+//! The store: routes by number in a slab, and beside it the number of each route.
 
 ghost use Rattle.std.specs.Prelude.{◌≡◌, ◌≢◌, ◌<◌, ◌==◌, ℕ, Some, None, Ok, IfOk, OnErr, IfSome};
 ghost use Rattle.std.specs.FinMap as map_of;
@@ -17,7 +17,7 @@ use std::alloc::Global;
 use std::collections::HashMap;
 use std::marker::Model;
 
-/// Routes kept once.
+/// Routes kept once. Contracts see a finite map from each live number to its route and the count of its uses.
 #[derive(Drop)]
 pub struct AttrStore {
     kept: Slab<KeptRoute>,
@@ -38,7 +38,7 @@ impl Model for AttrStore {
 }
 
 impl AttrStore {
-    /// A store without routes.
+    /// A store without routes. It takes no memory.
     pub fn new(alloc: Global) -> AttrStore
         ensures { result ≡ map_of.empty }
     {
@@ -48,7 +48,11 @@ impl AttrStore {
         }
     }
 
-    /// The number of a route: its own where an equal route is there, else a new one. It has one use more.
+    /// The number of a route, with one use more: its own where an equal route is there, else one that isn't live.
+    ///
+    /// `NoMemory` comes where an equal route isn't there and there was no room for it, or no number below 2^32 - 1 is left.
+    ///
+    /// For a route that is there it costs one look-up, which hashes the octets of the path attributes.
     pub fn intern(&mut self, route: Route) -> Result<RouteNo, NoMemory>
         ensures kept { IfOk result (λ n. self.new ≡ used self.old n route) }
         ensures own { IfOk result (λ n. IfSome (route_at self.old n) (λ r. r ≡ route)) }
@@ -67,7 +71,7 @@ impl AttrStore {
         }
     }
 
-    /// One use more of a route.
+    /// One use more of a route. The number is live. It takes no memory, and costs one access by index.
     pub fn retain(&mut self, n: RouteNo)
         requires { IsLive self.old n }
         ensures { self.new ≡ retained self.old n }
@@ -75,7 +79,8 @@ impl AttrStore {
         add_use(&mut self.kept, n.number());
     }
 
-    /// One use less of a route, which goes with its last use.
+    /// One use less of a route, which goes with its last use. The number is live. It takes no memory, and costs
+    /// one access by index, and for a last use one look-up.
     pub fn release(&mut self, n: RouteNo)
         requires { IsLive self.old n }
         ensures { self.new ≡ released self.old n }
@@ -88,7 +93,7 @@ impl AttrStore {
         self.numbers.remove(&RouteKey { route });
     }
 
-    /// The route of a number.
+    /// The route of a number that is live.
     pub fn get(&self, n: RouteNo) -> &Route
         requires { IsLive self.now n }
         ensures route { route_at self.now n ≡ Some result.now }
