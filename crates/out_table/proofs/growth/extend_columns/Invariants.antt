@@ -1,0 +1,7 @@
+use Rattle.std.proofs.Common.{◌≡◌, ℕ, ◌<◌, ◌≤◌, length}
+use Rattle.out_table.specs.Places.{cells_at, KeepsAll, IsGrown}
+use Rattle.out_table.proofs.growth.extend_columns.Given as goal
+
+-- those so far have enough cells
+abbrev pub invariant-loop-slot : goal.invariant-loop-slot
+invariant-loop-slot l = IsGrown l.count l.slot l.fn.columns.items l.columns.items
