@@ -1,21 +1,21 @@
 -- What the entries of a table say of each prefix and slot.
-use Rattle.std.proofs.Common.{◌≡◌, ℕ, zero, suc, ◌+◌, ◌-◌, ◌<◌, ◌≤◌, Bool, true, false, cond, not, ◌&&◌, ◌||◌, eqb, ltb, List, [], ◌∷◌, ◌++◌, map, length, get_or, Option, Some, None, is_some, refl, sym, ap, subst, ◌∙◌, arith, ◌⊎◌, inl, inr}
+use Rattle.std.proofs.Common.{◌≡◌, ℕ, suc, ◌+◌, ◌-◌, ◌<◌, Bool, true, false, cond, not, ◌&&◌, ◌||◌, eqb, ltb, List, [], ◌∷◌, ◌++◌, map, get_or, Option, Some, None, is_some, refl, sym, ap, subst, ◌∙◌, arith, ◌⊎◌, inl, inr}
 use Rattle.std.specs.List.{AllByRecursion, list_any}
-use Rattle.std.specs.Map.{keys_of, lookup}
+use Rattle.std.specs.Map.{keys_of}
 use Rattle.std.specs.List.Sorted.{IsStrictlySortedBy}
 use Rattle.std.specs.FinMap as map_of
 use Rattle.std.specs.FinSet as set_of
 use Rattle.std.specs.Option.{option_and_then}
 use Rattle.std.specs.Ordering.{is_eq, eq_by_cmp}
 use Rattle.std.specs.declared.cmp.Ordering.{Ordering}
-use Rattle.std.specs.declared.cmp.Ordering.TheVariants.{Less, Equal, Greater}
+use Rattle.std.specs.declared.cmp.Ordering.TheVariants.{Less}
 use Rattle.std.proofs.lemmas.Bool.{cases_order, lt-ltb, le-ltb, eq-eqb, ne_eqb}
 use Rattle.std.proofs.lemmas.List.Folds.{list_any-append}
 use Rattle.rcp_base.specs.IpPrefix.{IpPrefix, prefix_cmp}
 use Rattle.rcp_model.specs.Ribs.{RibKey, rib_cmp}
 use Rattle.rcp_model.proofs.RibLemmas.{prefix_total, prefix_exact, rib_total, rib_exact, rib_tied}
 use Rattle.out_table.proofs.RisingLemmas.{is_equal}
-use Rattle.out_table.specs.Cells.{Cells, no_number, no_cells, number_at}
+use Rattle.out_table.specs.Cells.{Cells, no_cells, number_at}
 use Rattle.out_table.specs.Tables.{Table, cell, is_opened, is_dirty}
 use Rattle.out_table.specs.Places.{Place, place_of, prefix_in, cells_at, number_of, is_listed, with_entry, entries_in, entries_from, dirty_from, table_of}
 
@@ -121,6 +121,7 @@ find-entries_from q s base places (cells ∷ columns) sorted =
     ∙ by_order (cases_order s base) where
       here : Cells → Option ℕ
       here c = number_of q places c.numbers
+
       by_tests : (t u v : Bool) → eqb s base ≡ t → ltb s (base + 1) ≡ u → ltb s base ≡ v
           → or_some (cond t (here cells) None) (cond u None (here (cells_at (s - (base + 1)) columns))) ≡ cond v None (here (cells_at (s - base) (cells ∷ columns)))
           → or_some (cond (eqb s base) (here cells) None) (cond (ltb s (base + 1)) None (here (cells_at (s - (base + 1)) columns))) ≡ cond (ltb s base) None (here (cells_at (s - base) (cells ∷ columns)))
@@ -128,6 +129,7 @@ find-entries_from q s base places (cells ∷ columns) sorted =
           subst (λ (w : Bool). or_some (cond w (here cells) None) (cond (ltb s (base + 1)) None (here (cells_at (s - (base + 1)) columns))) ≡ cond (ltb s base) None (here (cells_at (s - base) (cells ∷ columns)))) (sym is)
           (subst (λ (w : Bool). or_some (cond t (here cells) None) (cond w None (here (cells_at (s - (base + 1)) columns))) ≡ cond (ltb s base) None (here (cells_at (s - base) (cells ∷ columns)))) (sym is')
           (subst (λ (w : Bool). or_some (cond t (here cells) None) (cond u None (here (cells_at (s - (base + 1)) columns))) ≡ cond w None (here (cells_at (s - base) (cells ∷ columns)))) (sym is'') h))
+
       by_order : (s ≡ base) ⊎ ((s < base) ⊎ (base < s))
           → or_some (cond (eqb s base) (here cells) None) (cond (ltb s (base + 1)) None (here (cells_at (s - (base + 1)) columns))) ≡ cond (ltb s base) None (here (cells_at (s - base) (cells ∷ columns)))
       by_order (inl same) = by_tests true true false (eq-eqb s base same) (lt-ltb s (base + 1) (omega arith)) (le-ltb s base (omega arith)) (or_none (here cells) ∙ ap here (get_or_first cells columns s base no_cells same))
@@ -164,6 +166,7 @@ any_from q s base prefixes (cells ∷ columns) =
     ∙ by_order (cases_order s base) where
       here : Cells → Bool
       here c = is_listed q prefixes c.dirty
+
       by_tests : (t u v : Bool) → eqb s base ≡ t → ltb s (base + 1) ≡ u → ltb s base ≡ v
           → ((t && here cells) || (not u && here (cells_at (s - (base + 1)) columns))) ≡ (not v && here (cells_at (s - base) (cells ∷ columns)))
           → ((eqb s base && here cells) || (not (ltb s (base + 1)) && here (cells_at (s - (base + 1)) columns))) ≡ (not (ltb s base) && here (cells_at (s - base) (cells ∷ columns)))
@@ -171,6 +174,7 @@ any_from q s base prefixes (cells ∷ columns) =
           subst (λ (w : Bool). ((w && here cells) || (not (ltb s (base + 1)) && here (cells_at (s - (base + 1)) columns))) ≡ (not (ltb s base) && here (cells_at (s - base) (cells ∷ columns)))) (sym is)
           (subst (λ (w : Bool). ((t && here cells) || (not w && here (cells_at (s - (base + 1)) columns))) ≡ (not (ltb s base) && here (cells_at (s - base) (cells ∷ columns)))) (sym is')
           (subst (λ (w : Bool). ((t && here cells) || (not u && here (cells_at (s - (base + 1)) columns))) ≡ (not w && here (cells_at (s - base) (cells ∷ columns)))) (sym is'') h))
+
       by_order : (s ≡ base) ⊎ ((s < base) ⊎ (base < s))
           → ((eqb s base && here cells) || (not (ltb s (base + 1)) && here (cells_at (s - (base + 1)) columns))) ≡ (not (ltb s base) && here (cells_at (s - base) (cells ∷ columns)))
       by_order (inl same) = by_tests true true false (eq-eqb s base same) (lt-ltb s (base + 1) (omega arith)) (le-ltb s base (omega arith)) (or_false (here cells) ∙ ap here (get_or_first cells columns s base no_cells same))

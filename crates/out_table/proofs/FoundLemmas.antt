@@ -1,5 +1,5 @@
 -- What is known where a prefix has its place.
-use Rattle.std.proofs.Common.{◌≡◌, ℕ, ◌<◌, ◌≤◌, Bool, true, false, ◌&&◌, eqb, ltb, List, [], ◌∷◌, length, get_or, Option, Some, None, is_some, refl, sym, ap, subst, ◌∙◌, arith}
+use Rattle.std.proofs.Common.{◌≡◌, ℕ, ◌<◌, ◌≤◌, true, ◌&&◌, eqb, ltb, List, [], ◌∷◌, length, get_or, Option, Some, None, is_some, refl, sym, ap, subst, ◌∙◌, arith}
 use Rattle.std.specs.Map.{keys_of}
 use Rattle.std.specs.List.Sorted.{IsStrictlySortedBy}
 use Rattle.std.specs.Option.{option_and_then}
@@ -12,8 +12,8 @@ use Rattle.std.specs.FinSet as set_of
 use Rattle.rcp_model.specs.Ribs.{rib_cmp}
 use Rattle.rcp_base.specs.IpPrefix.{IpPrefix, prefix_cmp}
 use Rattle.out_table.specs.Cells.{Cells, no_cells, number_at, first_of}
-use Rattle.out_table.specs.Tables.{Table, cell, is_opened, is_dirty, new_table}
-use Rattle.out_table.specs.Places.{Place, place_of, prefix_in, no_prefix, AreInverse, cells_at, number_of, is_listed, AreKept, IsKept, table_of}
+use Rattle.out_table.specs.Tables.{Table, cell, is_opened, new_table}
+use Rattle.out_table.specs.Places.{Place, place_of, prefix_in, no_prefix, AreInverse, cells_at, number_of, AreKept, IsKept, table_of}
 use Rattle.out_table.proofs.EntryLemmas.{cell_is, dirty_is, opened_is, same_table}
 use Rattle.out_table.proofs.TableLemmas.{members_are}
 
@@ -95,7 +95,7 @@ kept_new members = record {
   rows = omega arith;
   few = omega arith;
   full = λ some. absurd (omega arith);
-  each = λ s less. absurd (omega arith)
+  each = λ s less. absurd (omega arith);
 }
 
 -- ---- the first of the dirty places

@@ -1,9 +1,9 @@
 -- What a table's columns keep where room is made.
-use Rattle.std.proofs.Common.{◌≡◌, ◌≢◌, ℕ, ◌+◌, ◌<◌, ◌≤◌, Bool, true, false, List, [], ◌∷◌, ◌++◌, length, get_or, refl, sym, ap, subst, ◌∙◌, arith, ◌⊎◌, inl, inr}
+use Rattle.std.proofs.Common.{◌≡◌, ◌≢◌, ℕ, ◌+◌, ◌<◌, ◌≤◌, List, [], ◌∷◌, ◌++◌, length, refl, sym, subst, ◌∙◌, arith, ◌⊎◌, inl, inr}
 use Rattle.std.proofs.Math.ListN.{set}
 use Rattle.std.proofs.lemmas.Bool.{cases_eq, cases_lt}
 use Rattle.std.proofs.lemmas.List.{get_or-set_same, get_or-set_other, length-set, get_or_append_left, get_or_push, get_or_past, length_push}
-use Rattle.out_table.specs.Cells.{Cells, no_cells, no_number, Keeps}
+use Rattle.out_table.specs.Cells.{Cells, no_cells, Keeps}
 use Rattle.out_table.specs.Places.{cells_at, KeepsAll, IsGrown}
 
 pub keeps-refl : (cells : Cells) → Keeps cells cells
@@ -24,7 +24,7 @@ keeps_all-trans a b c h k = let first = h.more in let second = k.more in
 pub keeps_all-push : (columns : List Cells) → KeepsAll columns (columns ++ no_cells ∷ [])
 keeps_all-push columns = record {
   more = omega (arith, length_push columns no_cells);
-  each = λ slot. subst (Keeps (cells_at slot columns)) (sym (same slot (cases_lt slot (length columns)))) (keeps-refl (cells_at slot columns))
+  each = λ slot. subst (Keeps (cells_at slot columns)) (sym (same slot (cases_lt slot (length columns)))) (keeps-refl (cells_at slot columns));
 } where
   same : (slot : ℕ) → (slot < length columns) ⊎ (length columns ≤ slot) → cells_at slot (columns ++ no_cells ∷ []) ≡ cells_at slot columns
   same slot (inl within) = get_or_append_left columns (no_cells ∷ []) no_cells slot within
@@ -37,7 +37,7 @@ keeps_all-push columns = record {
 pub keeps_all-set : (columns : List Cells) (slot : ℕ) (cells : Cells) → slot < length columns → Keeps (cells_at slot columns) cells → KeepsAll columns (set columns slot cells)
 keeps_all-set columns slot cells within kept = record {
   more = omega (arith, length-set columns slot cells);
-  each = λ s. at_slot s (cases_eq s slot)
+  each = λ s. at_slot s (cases_eq s slot);
 } where
   at_slot : (s : ℕ) → (s ≡ slot) ⊎ (s ≢ slot) → Keeps (cells_at s columns) (cells_at s (set columns slot cells))
   at_slot s (inl same) =
@@ -50,7 +50,7 @@ pub grown-set : (count slot : ℕ) (old columns : List Cells) (cells : Cells) �
 grown-set count slot old columns cells within grown kept enough = record {
   kept = keeps_all-trans old columns (set columns slot cells) grown.kept (keeps_all-set columns slot cells within kept);
   len = length-set columns slot cells ∙ grown.len;
-  enough = λ s less. at_slot s less (cases_eq s slot)
+  enough = λ s less. at_slot s less (cases_eq s slot);
 } where
   at_slot : (s : ℕ) → s < slot + 1 → (s ≡ slot) ⊎ (s ≢ slot) → count ≤ length (cells_at s (set columns slot cells)).numbers
   at_slot s less (inl same) =

@@ -1,22 +1,21 @@
 -- The first place in the order of prefixes that passes a test is the least one.
-use Rattle.std.proofs.Common.{◌≡◌, ℕ, Bool, true, false, cond, not, ◌&&◌, List, [], ◌∷◌, filter, find, slice_get, Option, Some, None, is_some, refl, sym, ap, subst, ◌∙◌}
+use Rattle.std.proofs.Common.{◌≡◌, ℕ, Bool, true, false, cond, ◌&&◌, List, [], ◌∷◌, filter, find, slice_get, Option, Some, None, is_some, refl, sym, ap, subst, ◌∙◌}
 use Rattle.std.specs.List.{AllByRecursion}
-use Rattle.std.specs.Map.{keys_of, lookup}
+use Rattle.std.specs.Map.{keys_of}
 use Rattle.std.specs.List.Sorted.{IsStrictlySortedBy}
 use Rattle.std.specs.Option.{option_and_then, option_map}
-use Rattle.std.specs.Ordering.{is_eq, is_le, is_lt, eq_by_cmp}
-use Rattle.std.specs.declared.cmp.Ordering.{Ordering}
-use Rattle.std.specs.declared.cmp.Ordering.TheVariants.{Less, Equal, Greater}
+use Rattle.std.specs.Ordering.{is_le, is_lt, eq_by_cmp}
+use Rattle.std.specs.declared.cmp.Ordering.TheVariants.{Less}
 use Rattle.std.proofs.lemmas.Bool.{false≢true, and_parts, and_right, cond-true}
 use Rattle.std.proofs.lemmas.Cmp.{tied_back}
 use Rattle.std.proofs.lemmas.Option.{none-some}
 use Rattle.rcp_base.specs.IpPrefix.{IpPrefix, prefix_cmp}
-use Rattle.rcp_model.proofs.RibLemmas.{prefix_total, prefix_exact}
-use Rattle.out_table.specs.Cells.{Cells, no_cells, number_at}
+use Rattle.rcp_model.proofs.RibLemmas.{prefix_total}
+use Rattle.out_table.specs.Cells.{Cells, number_at}
 use Rattle.out_table.specs.Tables.{Table, cell, is_opened, IsLeast, is_after}
-use Rattle.out_table.specs.Places.{Place, place_of, cells_at, number_of, places_after, IsKept, table_of}
+use Rattle.out_table.specs.Places.{Place, place_of, cells_at, places_after, IsKept, table_of}
 use Rattle.out_table.proofs.RisingLemmas.{is_equal}
-use Rattle.out_table.proofs.EntryLemmas.{none_later, sorted_later, sorted_above, cell_is, opened_is}
+use Rattle.out_table.proofs.EntryLemmas.{none_later, sorted_later, sorted_above, opened_is}
 use Rattle.out_table.proofs.TableLemmas.{itself, tied_same}
 use Rattle.out_table.proofs.FoundLemmas.{cell_by}
 
@@ -46,19 +45,25 @@ least_first low test [] sorted = λ q. and_right (low q) false refl
 least_first low test (e ∷ places) sorted = by_tests (low e.0) (test e.1) refl refl (least_first low test places (sorted_later e places sorted)) where
   rest : List Place
   rest = filter (λ (e : Place). low e.0) places
+
   chosen : Option IpPrefix
   chosen = option_map (λ (e : Place). e.0) (find (λ (e : Place). test e.1) rest)
+
   found_first : place_of e.0 (e ∷ places) ≡ Some e.1
   found_first = cond-true (eq_by_cmp prefix_cmp e.0 e.0) (Some e.1) (place_of e.0 places) (itself e.0)
+
   here : low e.0 ≡ true → test e.1 ≡ true → IsLeast (λ q. low q && passes test q (e ∷ places)) (Some e.0)
-  here is is' = (ap (λ (t : Bool). t && at_place test (place_of e.0 (e ∷ places))) is ∙ ap (at_place test) found_first ∙ is',
-    λ q passing. at_or_above q (place_of q (e ∷ places)) refl (and_parts (low q) (at_place test (place_of q (e ∷ places))) passing).1) where
-      at_or_above : (q : IpPrefix) (o : Option ℕ) → place_of q (e ∷ places) ≡ o → at_place test o ≡ true → is_le (prefix_cmp e.0 q) ≡ true
-      at_or_above q None at passing = absurd (false≢true passing)
-      at_or_above q (Some place) at passing = by_test (eq_by_cmp prefix_cmp q e.0) refl at where
-        by_test : (t : Bool) → eq_by_cmp prefix_cmp q e.0 ≡ t → cond t (Some e.1) (place_of q places) ≡ Some place → is_le (prefix_cmp e.0 q) ≡ true
-        by_test true tied found = ap is_le (tied_back prefix_total q e.0 (is_equal (prefix_cmp q e.0) tied))
-        by_test false apart found = ap is_le (above_first e.0 q places place (sorted_above e places sorted) found)
+  here is is' = (
+    ap (λ (t : Bool). t && at_place test (place_of e.0 (e ∷ places))) is ∙ ap (at_place test) found_first ∙ is',
+    λ q passing. at_or_above q (place_of q (e ∷ places)) refl (and_parts (low q) (at_place test (place_of q (e ∷ places))) passing).1,
+  ) where
+    at_or_above : (q : IpPrefix) (o : Option ℕ) → place_of q (e ∷ places) ≡ o → at_place test o ≡ true → is_le (prefix_cmp e.0 q) ≡ true
+    at_or_above q None at passing = absurd (false≢true passing)
+    at_or_above q (Some place) at passing = by_test (eq_by_cmp prefix_cmp q e.0) refl at where
+      by_test : (t : Bool) → eq_by_cmp prefix_cmp q e.0 ≡ t → cond t (Some e.1) (place_of q places) ≡ Some place → is_le (prefix_cmp e.0 q) ≡ true
+      by_test true tied found = ap is_le (tied_back prefix_total q e.0 (is_equal (prefix_cmp q e.0) tied))
+      by_test false apart found = ap is_le (above_first e.0 q places place (sorted_above e places sorted) found)
+
   later : (low e.0 && test e.1) ≡ false → IsLeast (λ q. low q && passes test q places) chosen → IsLeast (λ q. low q && passes test q (e ∷ places)) chosen
   later fails least = least_same (λ q. low q && passes test q places) (λ q. low q && passes test q (e ∷ places)) chosen (λ q. same q (eq_by_cmp prefix_cmp q e.0) refl) least where
     same : (q : IpPrefix) (t : Bool) → eq_by_cmp prefix_cmp q e.0 ≡ t → (low q && at_place test (place_of q places)) ≡ (low q && at_place test (cond t (Some e.1) (place_of q places)))
@@ -66,6 +71,7 @@ least_first low test (e ∷ places) sorted = by_tests (low e.0) (test e.1) refl 
         ap (λ (o : Option ℕ). low q && at_place test o) (none_later q e places sorted tied) ∙ and_right (low q) false refl
         ∙ sym (ap (λ (r : IpPrefix). low r && test e.1) (tied_same e.0 q tied) ∙ fails)
     same q false apart = refl
+
   by_tests : (t u : Bool) → low e.0 ≡ t → test e.1 ≡ u → IsLeast (λ q. low q && passes test q places) chosen
       → IsLeast (λ q. low q && passes test q (e ∷ places)) (option_map (λ (e : Place). e.0) (find (λ (e : Place). test e.1) (cond t (e ∷ rest) rest)))
   by_tests true true is is' least = subst (λ (t : Bool). IsLeast (λ q. low q && passes test q (e ∷ places)) (option_map (λ (e : Place). e.0) (cond t (Some e) (find (λ (e : Place). test e.1) rest)))) (sym is') (here is is')

@@ -1,13 +1,12 @@
 -- What a table keeps and means where a prefix is opened.
-use Rattle.std.proofs.Common.{◌≡◌, ◌≢◌, ℕ, zero, suc, ◌+◌, ◌-◌, ◌<◌, ◌≤◌, Bool, true, false, cond, not, ◌&&◌, ◌||◌, eqb, ltb, List, [], ◌∷◌, ◌++◌, length, get_or, Option, Some, None, is_some, refl, sym, ap, subst, ◌∙◌, arith, ◌⊎◌, inl, inr}
-use Rattle.std.specs.List.{AllByRecursion, list_any}
-use Rattle.std.specs.Map.{keys_of, lookup}
+use Rattle.std.proofs.Common.{◌≡◌, ◌≢◌, ℕ, ◌<◌, ◌≤◌, Bool, true, false, cond, ◌||◌, List, [], ◌∷◌, ◌++◌, length, Option, Some, None, is_some, refl, sym, ap, subst, ◌∙◌, arith, ◌⊎◌, inl, inr}
+use Rattle.std.specs.List.{AllByRecursion}
+use Rattle.std.specs.Map.{keys_of}
 use Rattle.std.specs.List.Sorted.{IsStrictlySortedBy}
 use Rattle.std.specs.FinSet as set_of
 use Rattle.std.specs.Option.{option_and_then}
-use Rattle.std.specs.Ordering.{is_eq, eq_by_cmp}
-use Rattle.std.specs.declared.cmp.Ordering.{Ordering}
-use Rattle.std.specs.declared.cmp.Ordering.TheVariants.{Less, Equal, Greater}
+use Rattle.std.specs.Ordering.{eq_by_cmp}
+use Rattle.std.specs.declared.cmp.Ordering.TheVariants.{Less}
 use Rattle.std.proofs.lemmas.Bool.{cases_eq, cases_lt, false≢true}
 use Rattle.std.proofs.Common.{Result, Ok, Err, OnOk, OnErr}
 use Rattle.std.proofs.lemmas.Option.{same_Some, none-some}
@@ -16,8 +15,8 @@ use Rattle.std.proofs.lemmas.List.{get_or_append_left, get_or_push, get_or_past,
 use Rattle.rcp_base.specs.IpPrefix.{IpPrefix, prefix_cmp}
 use Rattle.rcp_model.specs.Ribs.{route_no_of}
 use Rattle.rcp_model.proofs.RibLemmas.{prefix_total}
-use Rattle.out_table.specs.Cells.{Cells, no_number, no_cells, number_at, Keeps}
-use Rattle.out_table.specs.Tables.{Table, cell, is_opened, is_dirty, opened}
+use Rattle.out_table.specs.Cells.{Cells, no_cells, number_at, Keeps}
+use Rattle.out_table.specs.Tables.{Table, is_opened, opened}
 use Rattle.out_table.specs.Places.{Place, place_of, prefix_in, no_prefix, AreInverse, cells_at, number_of, is_listed, IsRising, AreKept, IsKept, KeepsAll, IsRoom, Adds, table_of}
 use Rattle.out_table.proofs.TableLemmas.{tied_same, apart_of, members_same, members_are}
 use Rattle.out_table.proofs.EntryLemmas.{cell_is, dirty_is, opened_is, same_table}
@@ -44,7 +43,7 @@ kept-grown room slot prefixes old new keeps kept = let long = kept.long in let m
   long = omega arith;
   unused = λ k past. keeps.numbers k ∙ kept.unused k past;
   below = subst (AllByRecursion (λ place. place < length prefixes)) (sym keeps.dirty) kept.below;
-  rising = subst (IsRising prefixes) (sym keeps.dirty) kept.rising
+  rising = subst (IsRising prefixes) (sym keeps.dirty) kept.rising;
 }
 
 -- a slot without cells, where there is no room
@@ -58,7 +57,7 @@ kept_grown members room places prefixes columns more kept keeps few = record {
   rows = kept.rows;
   few = few;
   full = λ some. let all = kept.full some in let longer = keeps.more in omega arith;
-  each = λ s less. kept-grown room s prefixes (cells_at s columns) (cells_at s more) (keeps.each s) (at s less (cases_lt s (length columns)))
+  each = λ s less. kept-grown room s prefixes (cells_at s columns) (cells_at s more) (keeps.each s) (at s less (cases_lt s (length columns)));
 } where
   at : (s : ℕ) → s < length more → (s < length columns) ⊎ (length columns ≤ s) → AreKept room prefixes (cells_at s columns)
   at s less (inl within) = kept.each s within
@@ -81,7 +80,7 @@ kept_room members room more places prefixes columns longer kept keeps roomy rows
       rows = rows;
       few = roomy.few;
       full = roomy.full;
-      each = λ s less. let cells = grown.each s less in record { long = roomy.long s less; unused = cells.unused; below = cells.below; rising = cells.rising }
+      each = λ s less. let cells = grown.each s less in record { long = roomy.long s less; unused = cells.unused; below = cells.below; rising = cells.rising };
     }
 
 pub roomy : (members room : ℕ) (columns : List Cells) → length columns ≡ members → ((slot : ℕ) → slot < length columns → room ≤ length (cells_at slot columns).numbers) → IsRoom members room columns
@@ -119,6 +118,7 @@ inverse_added p old new prefixes inverse none adds = record { sorted = adds.sort
   placed q k found (inr other) =
       let before = inverse.placed q k (sym (at_other p q (length prefixes) old new adds other) ∙ found) in
       (omega (arith, length_push prefixes p, before.0), get_or_append_left prefixes (p ∷ []) no_prefix k before.0 ∙ before.1)
+
   found : (k : ℕ) → k < length (prefixes ++ p ∷ []) → (k ≡ length prefixes) ⊎ (k ≢ length prefixes) → place_of (prefix_in (prefixes ++ p ∷ []) k) new ≡ Some k
   found k within (inl is) = ap (λ (r : IpPrefix). place_of r new) (get_or_push prefixes p no_prefix k (sym is)) ∙ at_itself p (length prefixes) old new adds ∙ ap (λ (n : ℕ). Some n) (sym is)
   found k within (inr other) =
@@ -135,10 +135,11 @@ above_longer : (prefixes : List IpPrefix) (p : IpPrefix) (place : ℕ) (later : 
     → AllByRecursion (λ other. prefix_cmp (prefix_in prefixes place) (prefix_in prefixes other) ≡ Less) later
     → AllByRecursion (λ other. prefix_cmp (prefix_in (prefixes ++ p ∷ []) place) (prefix_in (prefixes ++ p ∷ []) other) ≡ Less) later
 above_longer prefixes p place [] within below above = tt
-above_longer prefixes p place (other ∷ later) within below above =
-    (subst (λ (q : IpPrefix). prefix_cmp q (prefix_in (prefixes ++ p ∷ []) other) ≡ Less) (sym (same_prefix_in prefixes p place within))
-    (subst (λ (q : IpPrefix). prefix_cmp (prefix_in prefixes place) q ≡ Less) (sym (same_prefix_in prefixes p other below.0)) above.0),
-    above_longer prefixes p place later within below.1 above.1)
+above_longer prefixes p place (other ∷ later) within below above = (
+  subst (λ (q : IpPrefix). prefix_cmp q (prefix_in (prefixes ++ p ∷ []) other) ≡ Less) (sym (same_prefix_in prefixes p place within))
+      (subst (λ (q : IpPrefix). prefix_cmp (prefix_in prefixes place) q ≡ Less) (sym (same_prefix_in prefixes p other below.0)) above.0),
+  above_longer prefixes p place later within below.1 above.1,
+)
 
 rising_longer : (prefixes : List IpPrefix) (p : IpPrefix) (dirty : List ℕ) → AllByRecursion (λ k. k < length prefixes) dirty → IsRising prefixes dirty → IsRising (prefixes ++ p ∷ []) dirty
 rising_longer prefixes p [] below rising = tt
@@ -159,7 +160,7 @@ kept_longer room prefixes p cells kept = record {
   long = kept.long;
   unused = λ k past. kept.unused k (omega (arith, length_push prefixes p));
   below = below_longer prefixes p cells.dirty kept.below;
-  rising = rising_longer prefixes p cells.dirty kept.below kept.rising
+  rising = rising_longer prefixes p cells.dirty kept.below kept.rising;
 }
 
 pub kept_opened : (members room : ℕ) (p : IpPrefix) (old new : List Place) (prefixes : List IpPrefix) (columns : List Cells) → IsKept members room old prefixes columns → length prefixes < room → place_of p old ≡ None
@@ -169,7 +170,7 @@ kept_opened members room p old new prefixes columns kept free none adds = record
   rows = omega (arith, length_push prefixes p);
   few = kept.few;
   full = kept.full;
-  each = λ s less. kept_longer room prefixes p (cells_at s columns) (kept.each s less)
+  each = λ s less. kept_longer room prefixes p (cells_at s columns) (kept.each s less);
 }
 
 -- what no slot has
@@ -193,18 +194,21 @@ pub table_opened : (members room : ℕ) (p : IpPrefix) (old new : List Place) (p
 table_opened members room p old new prefixes columns kept none adds =
     same_table (table_of members new (prefixes ++ p ∷ []) columns) (opened p before) same_count
     (λ q. opened_is members new (prefixes ++ p ∷ []) columns q ∙ ap is_some (adds.at q) ∙ either (eq_by_cmp prefix_cmp p q) (place_of q old)
-      ∙ sym (set_of.contains-insert prefix_total before.opened p q
-      ∙ ap (λ (t : Bool). t || is_opened before q) (sym (turned p q))
-      ∙ ap (λ (t : Bool). eq_by_cmp prefix_cmp p q || t) (opened_is members old prefixes columns q)))
+    ∙ sym (set_of.contains-insert prefix_total before.opened p q
+    ∙ ap (λ (t : Bool). t || is_opened before q) (sym (turned p q))
+    ∙ ap (λ (t : Bool). eq_by_cmp prefix_cmp p q || t) (opened_is members old prefixes columns q)))
     (λ s q. cell_is members new (prefixes ++ p ∷ []) columns adds.sorted s q ∙ numbers_same s q (same_or_other p q) ∙ sym (cell_is members old prefixes columns kept.inverse.sorted s q))
     (λ s q. dirty_is members new (prefixes ++ p ∷ []) columns s q ∙ same_dirty members room old prefixes columns p s q kept ∙ sym (dirty_is members old prefixes columns s q)) where
       before : Table
       before = table_of members old prefixes columns
+
       same_count : (table_of members new (prefixes ++ p ∷ []) columns).members ≡ (table_of members old prefixes columns).members
       same_count = members_are members new (prefixes ++ p ∷ []) columns ∙ sym (members_are members old prefixes columns)
+
       either : (t : Bool) (o : Option ℕ) → is_some (cond t (Some (length prefixes)) o) ≡ (t || is_some o)
       either true o = refl
       either false o = refl
+
       numbers_same : (s : ℕ) (q : IpPrefix) → (q ≡ p) ⊎ (q ≢ p) → number_of q new (cells_at s columns).numbers ≡ number_of q old (cells_at s columns).numbers
       numbers_same s q (inl same) =
           subst (λ (r : IpPrefix). number_of r new (cells_at s columns).numbers ≡ number_of r old (cells_at s columns).numbers) (sym same)
@@ -221,6 +225,7 @@ table_again members p places prefixes columns found =
     (λ q. is_there q (eq_by_cmp prefix_cmp q p) refl ∙ sym (set_of.contains-insert prefix_total before.opened p q)) (λ s q. refl) (λ s q. refl) where
       before : Table
       before = table_of members places prefixes columns
+
       is_there : (q : IpPrefix) → (t : Bool) → eq_by_cmp prefix_cmp q p ≡ t → is_opened before q ≡ (eq_by_cmp prefix_cmp q p || is_opened before q)
       is_there q true tied =
           subst (λ (r : IpPrefix). is_opened before r ≡ true) (sym (tied_same p q tied)) (opened_is members places prefixes columns p ∙ found)

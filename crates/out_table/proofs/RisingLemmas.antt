@@ -1,7 +1,7 @@
 -- Places whose prefixes rise: what a search finds among them, and what holds after one is put in.
-use Rattle.std.proofs.Common.{◌≡◌, ◌≢◌, ℕ, ◌+◌, ◌-◌, ◌<◌, ◌≤◌, Bool, true, false, cond, ◌||◌, List, [], ◌∷◌, length, get_or, take, drop, Option, Some, None, MatchOption, MatchResult, Result, Ok, Err, AllPairs, Contains, refl, sym, ap, subst, ◌∙◌, arith, ltb, suc, zero, ◌⊎◌, inl, inr}
-use Rattle.std.specs.List.{All, AllByRecursion, list_any, insert}
-use Rattle.std.specs.List.Sorted.{IsSortedBy, IsNonDecreasingBy, IsPartitionPoint, IsBinarySearchResult, IsSearchInRange}
+use Rattle.std.proofs.Common.{◌≡◌, ◌≢◌, ℕ, ◌+◌, ◌-◌, ◌<◌, ◌≤◌, Bool, true, false, ◌||◌, List, [], ◌∷◌, length, get_or, MatchResult, Result, Ok, Err, AllPairs, Contains, refl, sym, ap, subst, ◌∙◌, arith, ltb, suc, zero, ◌⊎◌, inl, inr}
+use Rattle.std.specs.List.{All, AllByRecursion, insert}
+use Rattle.std.specs.List.Sorted.{IsSortedBy, IsNonDecreasingBy, IsBinarySearchResult, IsSearchInRange}
 use Rattle.std.specs.Ordering.{is_lt, is_eq, eq_by_cmp, ordering_index, ordering_reverse}
 use Rattle.std.specs.declared.cmp.Ordering.{Ordering}
 use Rattle.std.specs.declared.cmp.Ordering.TheVariants.{Less, Equal, Greater}
@@ -76,7 +76,7 @@ searched_gap p prefixes dirty below rising (Err k) bound result =
     record {
       within = bound;
       before = λ i less. sym (order_in_is prefixes p (get_or dirty i 0) (all i 0 (omega arith))) ∙ parts.0 i 0 (omega arith) less;
-      after = λ i from within. sym (order_in_is prefixes p (get_or dirty i 0) (all i 0 within)) ∙ parts.1 i 0 from within
+      after = λ i from within. sym (order_in_is prefixes p (get_or dirty i 0) (all i 0 within)) ∙ parts.1 i 0 from within;
     }
 
 -- above the last one
@@ -85,7 +85,7 @@ pub last_gap : (p : IpPrefix) (prefixes : List IpPrefix) (dirty : List ℕ) → 
 last_gap p prefixes dirty rising some less = record {
   within = omega arith;
   before = λ k within. at_last k within (ltb k (length dirty - 1)) refl;
-  after = λ k from within. absurd (omega arith)
+  after = λ k from within. absurd (omega arith);
 } where
   at_last : (k : ℕ) → k < length dirty → (t : Bool) → ltb k (length dirty - 1) ≡ t → prefix_cmp (prefix_in prefixes (get_or dirty k 0)) p ≡ Less
   at_last k within true is = prefix_total.trans (prefix_in prefixes (get_or dirty k 0)) (prefix_in prefixes (get_or dirty (length dirty - 1) 0)) p (rising_pairs prefixes dirty rising k (length dirty - 1) 0 (omega (arith, ltb-true k (length dirty - 1) is)) (omega arith)) less
@@ -130,7 +130,7 @@ tail_gap : (p : IpPrefix) (prefixes : List IpPrefix) (other : ℕ) (dirty : List
 tail_gap p prefixes other dirty gap is = let within = is.within in record {
   within = omega arith;
   before = λ k less. is.before (suc k) (omega arith);
-  after = λ k from within. is.after (suc k) (omega arith) (omega arith)
+  after = λ k from within. is.after (suc k) (omega arith) (omega arith);
 }
 
 pub rising-insert : (prefixes : List IpPrefix) (dirty : List ℕ) (gap place : ℕ) → IsRising prefixes dirty → IsGap (prefix_in prefixes place) prefixes dirty gap → IsRising prefixes (insert dirty gap place)
@@ -180,6 +180,7 @@ gap_apart : (prefixes : List IpPrefix) (dirty : List ℕ) (gap place : ℕ) → 
 gap_apart prefixes dirty gap place is = λ k d within same. at_side k within (same ∙ get_or_default dirty k d 0 within) (ltb k gap) refl where
   tied : (k : ℕ) → place ≡ get_or dirty k 0 → prefix_cmp (prefix_in prefixes (get_or dirty k 0)) (prefix_in prefixes place) ≡ Equal
   tied k same = subst (λ (other : ℕ). prefix_cmp (prefix_in prefixes other) (prefix_in prefixes place) ≡ Equal) same (tied_itself prefix_total (prefix_in prefixes place))
+
   at_side : (k : ℕ) → k < length dirty → place ≡ get_or dirty k 0 → (t : Bool) → ltb k gap ≡ t → ⊥
   at_side k within same true side = less_not_equal (sym (is.before k (ltb-true k gap side)) ∙ tied k same)
   at_side k within same false side = greater_not_equal (sym (is.after k (ltb-false k gap side) within) ∙ tied k same)
@@ -218,7 +219,7 @@ set_marked p prefixes place number gap old mid new kept within at is gap_is done
       numbers = refl;
       listed = λ q. listed-insert q prefixes old.dirty gap place;
       below = all-insert (λ other. other < length prefixes) old.dirty gap place kept.below within;
-      rising = rising-insert prefixes old.dirty gap place kept.rising gap_here
+      rising = rising-insert prefixes old.dirty gap place kept.rising gap_here;
     })
 
 -- it is written, and dirty already

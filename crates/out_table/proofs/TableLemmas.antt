@@ -1,25 +1,24 @@
 -- What each change of the columns means for the table.
-use Rattle.std.proofs.Common.{◌≡◌, ◌≢◌, ℕ, zero, suc, ◌+◌, ◌-◌, ◌^◌, ◌<◌, ◌≤◌, Bool, true, false, cond, not, ◌&&◌, ◌||◌, eqb, ltb, List, [], ◌∷◌, ◌++◌, length, get_or, drop, replicate, Option, Some, None, IfSome, is_some, refl, sym, ap, subst, ◌∙◌, arith, ◌⊎◌, inl, inr}
+use Rattle.std.proofs.Common.{◌≡◌, ◌≢◌, ℕ, ◌-◌, ◌^◌, ◌<◌, ◌≤◌, Bool, true, false, cond, not, ◌&&◌, ◌||◌, eqb, ltb, List, [], ◌∷◌, length, get_or, drop, replicate, Option, Some, None, IfSome, refl, sym, ap, subst, ◌∙◌, arith, ◌⊎◌, inl, inr}
 use Rattle.std.proofs.Math.ListN.{set}
-use Rattle.std.specs.List.{AllByRecursion, list_any}
-use Rattle.std.specs.Map.{keys_of, lookup}
+use Rattle.std.specs.List.{AllByRecursion}
+use Rattle.std.specs.Map.{keys_of}
 use Rattle.std.specs.List.Sorted.{IsStrictlySortedBy}
 use Rattle.std.specs.FinMap as map_of
 use Rattle.std.specs.FinSet as set_of
 use Rattle.std.specs.Option.{option_and_then}
 use Rattle.std.specs.Ordering.{is_eq, is_le, eq_by_cmp}
-use Rattle.std.specs.declared.cmp.Ordering.{Ordering}
-use Rattle.std.specs.declared.cmp.Ordering.TheVariants.{Less, Equal, Greater}
-use Rattle.std.proofs.lemmas.Bool.{cases_eq, cases_lt, cases_Bool, false≢true, lt-ltb, le-ltb, eq-eqb, ne_eqb, or_cases, or_left, and_right, false_from_ne_true, cond-true, cond-false}
+use Rattle.std.specs.declared.cmp.Ordering.TheVariants.{Less, Equal}
+use Rattle.std.proofs.lemmas.Bool.{cases_eq, cases_lt, false≢true, lt-ltb, eq-eqb, ne_eqb, or_cases, or_left, and_right, false_from_ne_true, cond-true, cond-false}
 use Rattle.std.proofs.lemmas.Option.{same_Some, none-some}
 use Rattle.std.proofs.lemmas.Cmp.{tied_itself, tied_back}
-use Rattle.std.proofs.lemmas.List.{get_or-set_same, get_or-set_other, length-set, get_or_append_left, get_or_push, get_or_past, length_push, get_or-replicate, length-replicate}
+use Rattle.std.proofs.lemmas.List.{get_or-set_same, get_or-set_other, length-set, get_or_past, get_or-replicate, length-replicate}
 use Rattle.rcp_base.specs.IpPrefix.{IpPrefix, prefix_cmp}
 use Rattle.rcp_model.specs.Ribs.{RibKey, rib_cmp, RouteNumbers, route_no_of}
 use Rattle.rcp_model.proofs.RibLemmas.{prefix_total, prefix_exact, rib_total, rib_exact, rib_tied}
-use Rattle.out_table.specs.Cells.{Cells, no_number, no_cells, number_at, held_for, is_same, first_of, Keeps}
-use Rattle.out_table.specs.Tables.{Table, cell, is_opened, is_dirty, with_number, after_set, cleaned, cleared, opened, IsLeast, new_table}
-use Rattle.out_table.specs.Places.{Place, place_of, prefix_in, no_prefix, AreInverse, cells_at, number_of, is_listed, IsRising, AreKept, IsKept, KeepsAll, Sets, table_of}
+use Rattle.out_table.specs.Cells.{Cells, no_number, no_cells, number_at, held_for, is_same, first_of}
+use Rattle.out_table.specs.Tables.{Table, cell, is_opened, is_dirty, with_number, after_set, cleaned, cleared, IsLeast}
+use Rattle.out_table.specs.Places.{Place, place_of, prefix_in, AreInverse, cells_at, number_of, is_listed, IsRising, AreKept, IsKept, Sets, table_of}
 use Rattle.out_table.proofs.RisingLemmas.{is_equal, less_not_equal}
 use Rattle.out_table.proofs.EntryLemmas.{cell_is, dirty_is, opened_is, same_table}
 
@@ -49,12 +48,14 @@ pub number-set : (p q : IpPrefix) (place number : ℕ) (places : List Place) (pr
 number-set p q place number places prefixes numbers value inverse found within is = by_test (eq_by_cmp prefix_cmp q p) refl where
   here : number_of p places (set numbers place number) ≡ value
   here = ap (λ (o : Option ℕ). option_and_then (λ k. number_at k (set numbers place number)) o) found ∙ ap route_no_of (get_or-set_same numbers place number no_number within) ∙ is
+
   elsewhere : q ≢ p → (o : Option ℕ) → place_of q places ≡ o
       → option_and_then (λ k. number_at k (set numbers place number)) o ≡ option_and_then (λ place. number_at place numbers) o
   elsewhere other None at = refl
   elsewhere other (Some k) at =
       let differs : k ≢ place = λ same. other (sym (placed_at q k places prefixes inverse at) ∙ ap (prefix_in prefixes) same ∙ placed_at p place places prefixes inverse found) in
       ap route_no_of (get_or-set_other numbers place k number no_number differs)
+
   by_test : (t : Bool) → eq_by_cmp prefix_cmp q p ≡ t → number_of q places (set numbers place number) ≡ cond (eq_by_cmp prefix_cmp q p) value (number_of q places numbers)
   by_test true tied =
       subst (λ (r : IpPrefix). number_of r places (set numbers place number) ≡ value) (sym (tied_same p q tied)) here
@@ -100,20 +101,22 @@ table-set members slot place p value places prefixes columns changes new inverse
     same_table after (after_set slot p value before) (members_same members places prefixes (set columns slot new) columns)
     (λ q. opened_is members places prefixes (set columns slot new) q ∙ sym (opened_is members places prefixes columns q))
     (λ s q.
-      cell_is members places prefixes (set columns slot new) inverse.sorted s q ∙ cells_same s q (cases_eq s slot)
-      ∙ sym (get-with_number (p, slot) (q, s) value before.cells
-      ∙ ap (λ (t : Bool). cond t value (cell before s q)) (rib_tied (q, s) (p, slot))
-      ∙ ap (cond (eq_by_cmp prefix_cmp q p && eqb s slot) value) (cell_is members places prefixes columns inverse.sorted s q)))
+    cell_is members places prefixes (set columns slot new) inverse.sorted s q ∙ cells_same s q (cases_eq s slot)
+    ∙ sym (get-with_number (p, slot) (q, s) value before.cells
+    ∙ ap (λ (t : Bool). cond t value (cell before s q)) (rib_tied (q, s) (p, slot))
+    ∙ ap (cond (eq_by_cmp prefix_cmp q p && eqb s slot) value) (cell_is members places prefixes columns inverse.sorted s q)))
     (λ s q.
-      dirty_is members places prefixes (set columns slot new) s q ∙ dirty_same s q (cases_eq s slot)
-      ∙ sym (contains-marked (is_same (cell before slot p) value) (p, slot) (q, s) before.dirty
-      ∙ ap (λ (t : Bool). (t && eq_by_cmp rib_cmp (q, s) (p, slot)) || is_dirty before s q) (sym (is ∙ ap (λ (o : Option ℕ). not (is_same o value)) (sym (cell_is members places prefixes columns inverse.sorted slot p ∙ number_found p place places (cells_at slot columns).numbers found))))
-      ∙ ap (λ (t : Bool). (changes && t) || is_dirty before s q) (rib_tied (q, s) (p, slot))
-      ∙ ap (λ (t : Bool). (changes && (eq_by_cmp prefix_cmp q p && eqb s slot)) || t) (dirty_is members places prefixes columns s q))) where
+    dirty_is members places prefixes (set columns slot new) s q ∙ dirty_same s q (cases_eq s slot)
+    ∙ sym (contains-marked (is_same (cell before slot p) value) (p, slot) (q, s) before.dirty
+    ∙ ap (λ (t : Bool). (t && eq_by_cmp rib_cmp (q, s) (p, slot)) || is_dirty before s q) (sym (is ∙ ap (λ (o : Option ℕ). not (is_same o value)) (sym (cell_is members places prefixes columns inverse.sorted slot p ∙ number_found p place places (cells_at slot columns).numbers found))))
+    ∙ ap (λ (t : Bool). (changes && t) || is_dirty before s q) (rib_tied (q, s) (p, slot))
+    ∙ ap (λ (t : Bool). (changes && (eq_by_cmp prefix_cmp q p && eqb s slot)) || t) (dirty_is members places prefixes columns s q))) where
       before : Table
       before = table_of members places prefixes columns
+
       after : Table
       after = table_of members places prefixes (set columns slot new)
+
       cells_same : (s : ℕ) (q : IpPrefix) → (s ≡ slot) ⊎ (s ≢ slot)
           → number_of q places (cells_at s (set columns slot new)).numbers ≡ cond (eq_by_cmp prefix_cmp q p && eqb s slot) value (number_of q places (cells_at s columns).numbers)
       cells_same s q (inl same) =
@@ -125,6 +128,7 @@ table-set members slot place p value places prefixes columns changes new inverse
       cells_same s q (inr other) =
           ap (λ (v : Cells). number_of q places v.numbers) (get_or-set_other columns slot s new no_cells other)
           ∙ sym (cond-false (eq_by_cmp prefix_cmp q p && eqb s slot) value (number_of q places (cells_at s columns).numbers) (and_right (eq_by_cmp prefix_cmp q p) (eqb s slot) (ne_eqb s slot other)))
+
       dirty_same : (s : ℕ) (q : IpPrefix) → (s ≡ slot) ⊎ (s ≢ slot)
           → is_listed q prefixes (cells_at s (set columns slot new)).dirty ≡ ((changes && (eq_by_cmp prefix_cmp q p && eqb s slot)) || is_listed q prefixes (cells_at s columns).dirty)
       dirty_same s q (inl same) =
@@ -143,7 +147,7 @@ kept-set room place number prefixes changes old new kept within sets = let long 
   long = subst (λ (ns : List ℕ). room ≤ length ns) (sym sets.numbers) (omega (arith, length-set old.numbers place number));
   unused = λ k past. ap (λ (ns : List ℕ). get_or ns k no_number) sets.numbers ∙ get_or-set_other old.numbers place k number no_number (λ same. absurd (omega arith)) ∙ kept.unused k past;
   below = sets.below;
-  rising = sets.rising
+  rising = sets.rising;
 }
 
 -- what a table keeps after the cells of one slot change
@@ -156,7 +160,7 @@ table_kept members room places prefixes columns slot new kept within good =
       rows = kept.rows;
       few = subst (λ n. n ≤ members) (sym len) kept.few;
       full = λ some. len ∙ kept.full some;
-      each = λ s less. at_slot s (subst (λ n. s < n) len less) (cases_eq s slot)
+      each = λ s less. at_slot s (subst (λ n. s < n) len less) (cases_eq s slot);
     } where
       at_slot : (s : ℕ) → s < length columns → (s ≡ slot) ⊎ (s ≢ slot) → AreKept room prefixes (cells_at s (set columns slot new))
       at_slot s less (inl same) = subst (λ (n : ℕ). AreKept room prefixes (cells_at n (set columns slot new))) (sym same) (subst (AreKept room prefixes) (sym (get_or-set_same columns slot new no_cells within)) good)
@@ -187,6 +191,7 @@ pub listed_rest : (q : IpPrefix) (prefixes : List IpPrefix) (place : ℕ) (later
 listed_rest q prefixes place later rising = by_test (eq_by_cmp prefix_cmp q (prefix_in prefixes place)) refl where
   none : q ≡ prefix_in prefixes place → is_listed q prefixes later ≡ true → ⊥
   none same listed = less_not_equal (sym (listed_above q prefixes place later rising.0 listed) ∙ subst (λ (r : IpPrefix). prefix_cmp r q ≡ Equal) same (tied_itself prefix_total q))
+
   by_test : (t : Bool) → eq_by_cmp prefix_cmp q (prefix_in prefixes place) ≡ t → is_listed q prefixes later ≡ (not t && (t || is_listed q prefixes later))
   by_test true tied = false_from_ne_true (is_listed q prefixes later) (none (tied_same (prefix_in prefixes place) q tied))
   by_test false apart = refl
@@ -197,9 +202,10 @@ pub table_least : (members room slot : ℕ) (places : List Place) (prefixes : Li
 table_least members room slot places prefixes columns kept within place first = at (cells_at slot columns).dirty refl first (kept.each slot within).rising where
   at : (dirty : List ℕ) → (cells_at slot columns).dirty ≡ dirty → first_of dirty ≡ Some place → IsRising prefixes dirty → IsLeast (is_dirty (table_of members places prefixes columns) slot) (Some (prefix_in prefixes place))
   at [] is first rising = absurd (none-some place first)
-  at (head ∷ later) is first rising = subst (λ (k : ℕ). IsLeast (is_dirty (table_of members places prefixes columns) slot) (Some (prefix_in prefixes k))) (same_Some head place first)
-      (dirty_is members places prefixes columns slot (prefix_in prefixes head) ∙ ap (is_listed (prefix_in prefixes head) prefixes) is ∙ first_listed prefixes head later,
-      λ q dirty. first_least q prefixes head later rising (sym (dirty_is members places prefixes columns slot q ∙ ap (is_listed q prefixes) is) ∙ dirty))
+  at (head ∷ later) is first rising = subst (λ (k : ℕ). IsLeast (is_dirty (table_of members places prefixes columns) slot) (Some (prefix_in prefixes k))) (same_Some head place first) (
+    dirty_is members places prefixes columns slot (prefix_in prefixes head) ∙ ap (is_listed (prefix_in prefixes head) prefixes) is ∙ first_listed prefixes head later,
+    λ q dirty. first_least q prefixes head later rising (sym (dirty_is members places prefixes columns slot q ∙ ap (is_listed q prefixes) is) ∙ dirty),
+  )
 
 pub table_none : (members slot : ℕ) (places : List Place) (prefixes : List IpPrefix) (columns : List Cells)
     → first_of (cells_at slot columns).dirty ≡ None → IsLeast (is_dirty (table_of members places prefixes columns) slot) None
@@ -230,6 +236,7 @@ table_column members slot places prefixes columns new u sorted within members_ar
           subst (λ (n : ℕ). number_of q places (cells_at n (set columns slot new)).numbers ≡ cell u n q) (sym same)
           (ap (λ (v : Cells). number_of q places v.numbers) (get_or-set_same columns slot new no_cells within) ∙ here_cells q)
       cells_same s q (inr other) = ap (λ (v : Cells). number_of q places v.numbers) (get_or-set_other columns slot s new no_cells other) ∙ other_cells s q other
+
       dirty_same : (s : ℕ) (q : IpPrefix) → (s ≡ slot) ⊎ (s ≢ slot) → is_listed q prefixes (cells_at s (set columns slot new)).dirty ≡ is_dirty u s q
       dirty_same s q (inl same) =
           subst (λ (n : ℕ). is_listed q prefixes (cells_at n (set columns slot new)).dirty ≡ is_dirty u n q) (sym same)
@@ -249,19 +256,22 @@ table-take members room slot place places prefixes columns new kept within first
     (λ q. ap (λ (v : Cells). number_of q places v.numbers) is ∙ sym (cell_is members places prefixes columns kept.inverse.sorted slot q))
     (λ s q other. sym (cell_is members places prefixes columns kept.inverse.sorted s q))
     (λ q.
-      ap (λ (v : Cells). is_listed q prefixes v.dirty) is
-      ∙ rest (cells_at slot columns).dirty first (kept.each slot within).rising q
-      ∙ sym (removed slot q ∙ ap (λ (t : Bool). not t && is_listed q prefixes (cells_at slot columns).dirty) (and_true_right (eq_by_cmp prefix_cmp q p) (eqb slot slot) (eq-eqb slot slot refl))))
+    ap (λ (v : Cells). is_listed q prefixes v.dirty) is
+    ∙ rest (cells_at slot columns).dirty first (kept.each slot within).rising q
+    ∙ sym (removed slot q ∙ ap (λ (t : Bool). not t && is_listed q prefixes (cells_at slot columns).dirty) (and_true_right (eq_by_cmp prefix_cmp q p) (eqb slot slot) (eq-eqb slot slot refl))))
     (λ s q other. sym (removed s q ∙ ap (λ (t : Bool). not t && is_listed q prefixes (cells_at s columns).dirty) (and_right (eq_by_cmp prefix_cmp q p) (eqb s slot) (ne_eqb s slot other)))) where
       p : IpPrefix
       p = prefix_in prefixes place
+
       before : Table
       before = table_of members places prefixes columns
+
       removed : (s : ℕ) (q : IpPrefix) → is_dirty (cleaned slot (Some p) before) s q ≡ (not (eq_by_cmp prefix_cmp q p && eqb s slot) && is_listed q prefixes (cells_at s columns).dirty)
       removed s q =
           set_of.contains-remove rib_total before.dirty (p, slot) (q, s)
           ∙ ap (λ (t : Bool). not t && is_dirty before s q) (rib_tied (q, s) (p, slot))
           ∙ ap (λ (t : Bool). not (eq_by_cmp prefix_cmp q p && eqb s slot) && t) (dirty_is members places prefixes columns s q)
+
       rest : (dirty : List ℕ) → first_of dirty ≡ Some place → IsRising prefixes dirty → (q : IpPrefix) → is_listed q prefixes (drop 1 dirty) ≡ (not (eq_by_cmp prefix_cmp q p) && is_listed q prefixes dirty)
       rest [] first rising q = absurd (none-some place first)
       rest (head ∷ later) first rising q =
@@ -284,6 +294,7 @@ none_in_all q places n = at (place_of q places) where
   in_range : (k : ℕ) → (k < n) ⊎ (n ≤ k) → number_at k (replicate n no_number) ≡ None
   in_range k (inl less) = ap route_no_of (get_or-replicate n k no_number no_number less)
   in_range k (inr past) = ap route_no_of (get_or_past (replicate n no_number) k no_number (omega (arith, length-replicate n no_number)))
+
   at : (o : Option ℕ) → option_and_then (λ k. number_at k (replicate n no_number)) o ≡ None
   at None = refl
   at (Some k) = in_range k (cases_lt k n)
@@ -294,10 +305,10 @@ pub table-clear : (members room slot n : ℕ) (places : List Place) (prefixes : 
 table-clear members room slot n places prefixes columns new kept within is =
     table_column members slot places prefixes columns new (cleared slot before) kept.inverse.sorted within refl (λ q. refl)
     (λ q. ap (λ (v : Cells). number_of q places v.numbers) is ∙ none_in_all q places n
-      ∙ sym (cell-cleared slot slot q before ∙ cond-false (not (eqb slot slot)) (cell before slot q) None (ap not (eq-eqb slot slot refl))))
+    ∙ sym (cell-cleared slot slot q before ∙ cond-false (not (eqb slot slot)) (cell before slot q) None (ap not (eq-eqb slot slot refl))))
     (λ s q other. sym (cell-cleared slot s q before ∙ cond-true (not (eqb s slot)) (cell before s q) None (ap not (ne_eqb s slot other)) ∙ cell_is members places prefixes columns kept.inverse.sorted s q))
     (λ q. ap (λ (v : Cells). is_listed q prefixes v.dirty) is
-      ∙ sym (dirty-cleared slot slot q before ∙ and_right (is_dirty before slot q) (not (eqb slot slot)) (ap not (eq-eqb slot slot refl))))
+    ∙ sym (dirty-cleared slot slot q before ∙ and_right (is_dirty before slot q) (not (eqb slot slot)) (ap not (eq-eqb slot slot refl))))
     (λ s q other. sym (dirty-cleared slot s q before ∙ and_true_right (is_dirty before s q) (not (eqb s slot)) (ap not (ne_eqb s slot other)) ∙ dirty_is members places prefixes columns s q)) where
       before : Table
       before = table_of members places prefixes columns
@@ -309,7 +320,7 @@ kept-clear room n prefixes old new kept len is = let long = kept.long in
       long = omega (arith, length-replicate n no_number);
       unused = λ k past. at k (cases_lt k n);
       below = tt;
-      rising = tt
+      rising = tt;
     }) where
       at : (k : ℕ) → (k < n) ⊎ (n ≤ k) → get_or (replicate n no_number) k no_number ≡ no_number
       at k (inl less) = get_or-replicate n k no_number no_number less
@@ -324,14 +335,18 @@ clear_past members room slot places prefixes columns kept past =
     (λ s q. dirty_same s q (cases_eq s slot) ∙ sym (dirty-cleared slot s q before)) where
       before : Table
       before = table_of members places prefixes columns
+
       none : (q : IpPrefix) → cell before slot q ≡ None
       none q = cell_is members places prefixes columns kept.inverse.sorted slot q ∙ ap (λ (v : Cells). number_of q places v.numbers) (get_or_past columns slot no_cells past) ∙ none_in_all q places 0
+
       clean : (q : IpPrefix) → is_dirty before slot q ≡ false
       clean q = dirty_is members places prefixes columns slot q ∙ ap (λ (v : Cells). is_listed q prefixes v.dirty) (get_or_past columns slot no_cells past)
+
       cells_same : (s : ℕ) (q : IpPrefix) → (s ≡ slot) ⊎ (s ≢ slot) → cell before s q ≡ cond (not (eqb s slot)) (cell before s q) None
       cells_same s q (inl same) =
           subst (λ (n : ℕ). cell before n q ≡ None) (sym same) (none q) ∙ sym (cond-false (not (eqb s slot)) (cell before s q) None (ap not (eq-eqb s slot same)))
       cells_same s q (inr other) = sym (cond-true (not (eqb s slot)) (cell before s q) None (ap not (ne_eqb s slot other)))
+
       dirty_same : (s : ℕ) (q : IpPrefix) → (s ≡ slot) ⊎ (s ≢ slot) → is_dirty before s q ≡ (is_dirty before s q && not (eqb s slot))
       dirty_same s q (inl same) =
           subst (λ (n : ℕ). is_dirty before n q ≡ false) (sym same) (clean q) ∙ sym (and_right (is_dirty before s q) (not (eqb s slot)) (ap not (eq-eqb s slot same)))

@@ -1,5 +1,5 @@
 -- The cells of one slot by place, as four octets hold them.
-use Rattle.std.specs.Prelude.{◌≡◌, ⊤, ℕ, ◌-◌, ◌^◌, ◌<◌, ◌≤◌, Bool, true, false, ◌==◌, List, [], ◌∷◌, length, slice_index_or, Option, Some, None}
+use Rattle.std.specs.Prelude.{◌≡◌, ℕ, ◌-◌, ◌^◌, ◌≤◌, Bool, true, false, ◌==◌, List, [], ◌∷◌, length, slice_index_or, Option, Some, None}
 use Rattle.rcp_model.specs.Ribs.{route_no_of}
 
 -- what a cell without a route holds

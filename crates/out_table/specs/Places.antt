@@ -106,7 +106,7 @@ table_of members places prefixes columns = record {
   members = members;
   opened = set_of.from_list (keys_of places);
   cells = map_of.from_entries (entries_from 0 places columns);
-  dirty = set_of.from_list (dirty_from 0 prefixes columns)
+  dirty = set_of.from_list (dirty_from 0 prefixes columns);
 }
 
 -- The cells of each slot are kept. There may be more slots, without cells before.

@@ -1,5 +1,5 @@
 -- The cells of all slots as finite maps and sets, and what each call does to them.
-use Rattle.std.specs.Prelude.{◌≡◌, ℕ, Bool, true, false, not, ◌&&◌, ◌==◌, List, [], ◌∷◌, Option, Some, None, is_some, if◌then◌else◌, refl}
+use Rattle.std.specs.Prelude.{◌≡◌, ℕ, Bool, true, false, not, ◌==◌, Option, Some, None, if◌then◌else◌, refl}
 use Rattle.std.specs.Coded.{Coded, code_by, coded×, coded_ℕ}
 use Rattle.std.specs.FinMap as map_of
 use Rattle.std.specs.FinSet as set_of
@@ -49,7 +49,7 @@ abbrev pub after_set : ℕ → IpPrefix → Option ℕ → Table → Table
 after_set slot p value t =
     record t {
       cells = with_number (p, slot) value t.cells;
-      dirty = (if is_same (cell t slot p) value then t.dirty else set_of.insert t.dirty (p, slot))
+      dirty = (if is_same (cell t slot p) value then t.dirty else set_of.insert t.dirty (p, slot));
     }
 
 -- the cell at the prefix is clean, where there is one
@@ -62,7 +62,7 @@ abbrev pub cleared : ℕ → Table → Table
 cleared slot t =
     record t {
       cells = map_of.retain_keys t.cells (λ key. not (key.1 == slot));
-      dirty = set_of.retain t.dirty (λ key. not (key.1 == slot))
+      dirty = set_of.retain t.dirty (λ key. not (key.1 == slot));
     }
 
 -- the least prefix that passes the test: none exactly where none passes

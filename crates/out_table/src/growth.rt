@@ -10,7 +10,13 @@ use std::collections::BTreeMap;
 
 /// Makes room for a place where there is none, and answers for how many places there is room then. `NoMemory` where
 /// there is none to be had; the cells that there were are as before then.
-pub fn make_room(alloc: Global, columns: &mut Vec<Column>, members: usize, room: usize, place: usize) -> Result<usize, NoMemory>
+pub fn make_room(
+    alloc: Global,
+    columns: &mut Vec<Column>,
+    members: usize,
+    room: usize,
+    place: usize,
+) -> Result<usize, NoMemory>
     requires room { IsRoom members room columns.old.items }
     requires small { place < 2 ^ 32 }
     ensures kept { KeepsAll columns.old.items columns.new.items }
@@ -53,7 +59,11 @@ fn extend_columns(columns: &mut Vec<Column>, count: usize) -> Result<(), NoMemor
 }
 
 /// Gives a prefix the next place. `NoMemory` where there is no room; nothing changes then.
-pub fn add_place(places: &mut BTreeMap<Prefix, u32>, prefixes: &mut Vec<Prefix>, p: Prefix) -> Result<(), NoMemory>
+pub fn add_place(
+    places: &mut BTreeMap<Prefix, u32>,
+    prefixes: &mut Vec<Prefix>,
+    p: Prefix,
+) -> Result<(), NoMemory>
     requires absent { place_of p places.old.entries ≡ None }
     requires small { length prefixes.old.items < 2 ^ 32 }
     ensures place { OnOk result (Adds p (length prefixes.old.items) places.old.entries places.new.entries) }

@@ -41,7 +41,11 @@ pub fn first_with(places: &BTreeMap<Prefix, u32>, column: &Column) -> Option<Pre
 }
 
 /// The first prefix after another at which there is a number.
-pub fn first_after_with(places: &BTreeMap<Prefix, u32>, column: &Column, p: Prefix) -> Option<Prefix>
+pub fn first_after_with(
+    places: &BTreeMap<Prefix, u32>,
+    column: &Column,
+    p: Prefix,
+) -> Option<Prefix>
     ensures { result ≡ option_map (λ (e : Place). e.0)
         (find (λ (e : Place). is_some (number_at e.1 column.now.numbers)) (places_after p places.now.entries)) }
 {

@@ -9,7 +9,13 @@ use rcp_base::Prefix;
 use rcp_model::RouteNo;
 
 /// Writes the cell of a prefix, and marks it where its value changes. Answers whether it does.
-pub fn set_cell(column: &mut Column, prefixes: &[Prefix], p: &Prefix, place: u32, value: Option<RouteNo>) -> bool
+pub fn set_cell(
+    column: &mut Column,
+    prefixes: &[Prefix],
+    p: &Prefix,
+    place: u32,
+    value: Option<RouteNo>,
+) -> bool
     requires kept { AreKept (length prefixes.now) prefixes.now column.old }
     requires within { place < length prefixes.now }
     requires place { prefix_in prefixes.now place ≡ p.now }

@@ -201,7 +201,12 @@ impl OutTable {
 }
 
 /// The place of a prefix. The place that was found last is tried first.
-fn place_of(places: &BTreeMap<Prefix, u32>, prefixes: &[Prefix], last: u32, p: &Prefix) -> Option<u32>
+fn place_of(
+    places: &BTreeMap<Prefix, u32>,
+    prefixes: &[Prefix],
+    last: u32,
+    p: &Prefix,
+) -> Option<u32>
     requires { AreInverse places.now.entries prefixes.now }
     ensures { result ≡ place_of p.now places.now.entries }
 {

@@ -1,4 +1,4 @@
-use Rattle.std.proofs.Common.{◌≡◌, ◌≤◌, length}
+use Rattle.std.proofs.Common.{◌≡◌, length}
 use Rattle.out_table.specs.Places.{KeepsAll}
 use Rattle.out_table.proofs.growth.add_columns.Given as goal
 

@@ -1,5 +1,4 @@
-use Rattle.std.proofs.Common.{◌≡◌, ℕ, ◌<◌, ◌≤◌, length}
-use Rattle.out_table.specs.Places.{cells_at, KeepsAll, IsGrown}
+use Rattle.out_table.specs.Places.{IsGrown}
 use Rattle.out_table.proofs.growth.extend_columns.Given as goal
 
 -- those so far have enough cells

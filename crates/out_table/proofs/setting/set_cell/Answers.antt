@@ -1,5 +1,5 @@
 use Rattle.out_table.specs.Cells.{held_for}
-use Rattle.out_table.proofs.RisingLemmas.{gap_room, set_marked, set_listed, set_unchanged}
+use Rattle.out_table.proofs.RisingLemmas.{gap_room, set_marked}
 use Rattle.out_table.proofs.setting.set_cell.Goals as goal
 
 pub mark-requires-clause-room : goal.mark-requires-clause-room

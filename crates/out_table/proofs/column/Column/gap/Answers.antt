@@ -1,9 +1,8 @@
-use Rattle.std.proofs.Common.{◌≡◌, ◌<◌, length, true, sym, subst, Some, IsSome, deque_len, MatchOption, MatchResult, Result, Ok, Err, List, ℕ, Option, rules, of_calls, ◌∙◌}
+use Rattle.std.proofs.Common.{◌≡◌, ◌<◌, length, true, sym, subst, deque_len, MatchOption, MatchResult, Result, Ok, Err, ℕ, Option, rules, of_calls, ◌∙◌}
 use Rattle.std.specs.List.{AllByRecursion}
 use Rattle.std.specs.Result.{result_err}
 use Rattle.std.proofs.lemmas.Fn.{always_returns_same}
 use Rattle.std.specs.List.Sorted.{IsSearchInRange}
-use Rattle.rcp_base.specs.IpPrefix.{IpPrefix}
 use Rattle.out_table.specs.Cells.{Cells}
 use Rattle.out_table.specs.Places.{IsRising, IsGap, is_listed, order_in}
 use Rattle.out_table.proofs.RisingLemmas.{searched_gap, above_last}

@@ -1,12 +1,9 @@
-use Rattle.std.proofs.Common.{◌≡◌, ℕ, ◌<◌, ◌≤◌, Bool, true, false, not, List, length, drop, Option, Some, None, is_some, refl, sym, ap, subst, ◌∙◌, arith, rules, vec_len}
+use Rattle.std.proofs.Common.{◌≡◌, ℕ, ◌<◌, ◌≤◌, length, ap, subst, rules}
 use Rattle.std.proofs.Math.ListN.{set}
-use Rattle.std.specs.Option.{option_map}
 use Rattle.std.proofs.lemmas.List.{get_or_read}
-use Rattle.rcp_base.specs.IpPrefix.{IpPrefix}
-use Rattle.out_table.specs.Cells.{Cells, no_cells, no_number, number_at, held_for, is_same, first_of}
-use Rattle.out_table.specs.Tables.{Table, cell, is_opened, is_dirty, after_set, cleaned, cleared, IsLeast}
-use Rattle.out_table.specs.Places.{place_of, prefix_in, no_prefix, cells_at, number_of, AreKept, Sets, table_of}
-use Rattle.std.proofs.Common.{replicate, []}
+use Rattle.out_table.specs.Cells.{Cells, no_cells}
+use Rattle.out_table.specs.Tables.{Table, cleared}
+use Rattle.out_table.specs.Places.{cells_at, table_of}
 use Rattle.out_table.proofs.TableLemmas.{table-clear, kept-clear, table_kept, clear_past}
 use Rattle.out_table.proofs.table.OutTable.clear.Goals as goal
 

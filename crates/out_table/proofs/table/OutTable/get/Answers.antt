@@ -1,12 +1,8 @@
-use Rattle.std.proofs.Common.{◌≡◌, ℕ, ◌<◌, ◌≤◌, Bool, true, false, not, List, length, drop, Option, Some, None, is_some, refl, sym, ap, subst, ◌∙◌, arith, rules, vec_len}
-use Rattle.std.proofs.Math.ListN.{set}
-use Rattle.std.specs.Option.{option_map}
+use Rattle.std.proofs.Common.{◌≡◌, ◌<◌, length, refl, sym, ap, subst, ◌∙◌, rules}
 use Rattle.std.proofs.lemmas.List.{get_or_read}
-use Rattle.rcp_base.specs.IpPrefix.{IpPrefix}
-use Rattle.out_table.specs.Cells.{Cells, no_cells, no_number, number_at, held_for, is_same, first_of}
-use Rattle.out_table.specs.Tables.{Table, cell, is_opened, is_dirty, after_set, cleaned, cleared, IsLeast}
-use Rattle.out_table.specs.Places.{place_of, prefix_in, no_prefix, cells_at, number_of, AreKept, Sets, table_of}
-use Rattle.out_table.proofs.FoundLemmas.{cell_by, found_within, found_slot, found_cell, number_none, number_some}
+use Rattle.out_table.specs.Cells.{Cells, no_cells, number_at}
+use Rattle.out_table.specs.Places.{cells_at}
+use Rattle.out_table.proofs.FoundLemmas.{cell_by, found_slot, found_cell, number_none, number_some}
 use Rattle.out_table.proofs.table.OutTable.get.Goals as goal
 
 pub returns-in_err-place : goal.returns-in_err-place

@@ -1,4 +1,4 @@
-use Rattle.std.proofs.Common.{◌≡◌, List, ap, ◌∙◌}
+use Rattle.std.proofs.Common.{◌∙◌}
 use Rattle.out_table.specs.Places.{table_of}
 use Rattle.out_table.proofs.FoundLemmas.{table_new}
 use Rattle.out_table.proofs.table.OutTable.new.Goals as goal

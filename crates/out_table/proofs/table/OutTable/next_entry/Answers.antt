@@ -1,10 +1,10 @@
-use Rattle.std.proofs.Common.{◌≡◌, ℕ, ◌<◌, ◌≤◌, ◌&&◌, find, length, Option, Some, None, is_some, refl, sym, ap, subst, ◌∙◌, rules}
+use Rattle.std.proofs.Common.{◌≡◌, ◌<◌, ◌≤◌, ◌&&◌, find, length, Option, Some, None, is_some, sym, ap, subst, ◌∙◌, rules}
 use Rattle.std.specs.Option.{option_map}
 use Rattle.std.proofs.lemmas.Bool.{and_right}
 use Rattle.std.proofs.lemmas.List.{get_or_read}
 use Rattle.rcp_base.specs.IpPrefix.{IpPrefix}
 use Rattle.out_table.specs.Cells.{Cells, no_cells, number_at}
-use Rattle.out_table.specs.Tables.{Table, cell, is_after, IsLeast}
+use Rattle.out_table.specs.Tables.{cell, is_after, IsLeast}
 use Rattle.out_table.specs.Places.{Place, cells_at, places_after}
 use Rattle.out_table.proofs.FoundLemmas.{cell_past}
 use Rattle.out_table.proofs.LeastLemmas.{least_of_all, least_after, number_by}

@@ -1,6 +1,6 @@
-use Rattle.std.proofs.Common.{◌≡◌, ℕ, ◌<◌, ◌≤◌, false, List, length, Option, Some, None, is_some, refl, sym, ap, subst, ◌∙◌, arith, rules}
+use Rattle.std.proofs.Common.{◌≡◌, ℕ, ◌<◌, length, sym, subst, ◌∙◌, arith, rules}
 use Rattle.out_table.specs.Tables.{Table, opened}
-use Rattle.out_table.specs.Places.{place_of, IsKept, table_of}
+use Rattle.out_table.specs.Places.{place_of}
 use Rattle.out_table.proofs.OpenLemmas.{none_from, on_err, kept_grown, kept_room, table_grown, table_again, kept_either, table_ok, table_err}
 use Rattle.out_table.proofs.table.OutTable.open.Goals as goal
 

@@ -1,11 +1,10 @@
-use Rattle.std.proofs.Common.{◌≡◌, ℕ, ◌<◌, ◌≤◌, Bool, true, false, not, List, length, drop, Option, Some, None, is_some, refl, sym, ap, subst, ◌∙◌, arith, rules, vec_len}
+use Rattle.std.proofs.Common.{◌≡◌, ℕ, ◌<◌, not, List, length, Option, sym, ap, subst, ◌∙◌, rules}
 use Rattle.std.proofs.Math.ListN.{set}
-use Rattle.std.specs.Option.{option_map}
 use Rattle.std.proofs.lemmas.List.{get_or_read}
 use Rattle.rcp_base.specs.IpPrefix.{IpPrefix}
-use Rattle.out_table.specs.Cells.{Cells, no_cells, no_number, number_at, held_for, is_same, first_of}
-use Rattle.out_table.specs.Tables.{Table, cell, is_opened, is_dirty, after_set, cleaned, cleared, IsLeast}
-use Rattle.out_table.specs.Places.{place_of, prefix_in, no_prefix, cells_at, number_of, AreKept, Sets, table_of}
+use Rattle.out_table.specs.Cells.{Cells, no_cells, number_at, held_for, is_same}
+use Rattle.out_table.specs.Tables.{Table, after_set}
+use Rattle.out_table.specs.Places.{cells_at, AreKept, Sets, table_of}
 use Rattle.out_table.proofs.FoundLemmas.{cell_by, found_within, found_slot, found_cell, number_some, never_none, kept_less}
 use Rattle.out_table.proofs.TableLemmas.{table-set, table_kept, kept-set}
 use Rattle.out_table.proofs.table.OutTable.set.Goals as goal
