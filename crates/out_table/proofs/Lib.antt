@@ -5,3 +5,4 @@ pub mod TableLemmas
 pub mod OpenLemmas
 pub mod FoundLemmas
 pub mod LeastLemmas
+pub mod HistoryLemmas

@@ -64,11 +64,11 @@ number-set p q place number places prefixes numbers value inverse found within i
       elsewhere (apart_of p q apart) (place_of q places) refl
       ∙ sym (cond-false (eq_by_cmp prefix_cmp q p) value (number_of q places numbers) apart)
 
-get-with_number : (key k : RibKey) (value : Option ℕ) (cells : RouteNumbers) → map_of.get (with_number key value cells) k ≡ cond (eq_by_cmp rib_cmp k key) value (map_of.get cells k)
+pub get-with_number : (key k : RibKey) (value : Option ℕ) (cells : RouteNumbers) → map_of.get (with_number key value cells) k ≡ cond (eq_by_cmp rib_cmp k key) value (map_of.get cells k)
 get-with_number key k None cells = map_of.get-remove rib_total cells key k
 get-with_number key k (Some n) cells = map_of.get-insert rib_total cells key n k
 
-contains-marked : (t : Bool) (key k : RibKey) (dirty : set_of.FinSet rib_cmp)
+pub contains-marked : (t : Bool) (key k : RibKey) (dirty : set_of.FinSet rib_cmp)
     → set_of.contains (cond t dirty (set_of.insert dirty key)) k ≡ ((not t && eq_by_cmp rib_cmp k key) || set_of.contains dirty k)
 contains-marked true key k dirty = refl
 contains-marked false key k dirty = set_of.contains-insert rib_total dirty key k

@@ -10,6 +10,9 @@
 //! - `clear` empties and cleans the cells of a slot, and no others.
 //! - `open` alone takes memory. Where there is none, the table is as before.
 //!
+//! `dirty_cells_are_those_changed` says over any run of changes that each cell has the value last set, and that the dirty
+//! cells are exactly those changed since they were taken or cleared.
+//!
 //! Who sets cells counts the uses of the numbers in them.
 //!
 //! ```text
@@ -22,11 +25,13 @@
 
 mod column;
 mod growth;
+mod laws;
 mod marks;
 mod search;
 mod setting;
 mod table;
 
+pub use laws::dirty_cells_are_those_changed;
 pub use table::OutTable;
 
 #[cfg(test)]

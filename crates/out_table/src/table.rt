@@ -103,8 +103,9 @@ impl OutTable {
 
     /// Sets a cell, and makes it dirty where its value changes. Answers whether it does.
     ///
-    /// Cells of one prefix in a row cost one look-up, and each else a constant where the prefixes that change rise; a
-    /// cell of another prefix is put between the dirty ones of its slot, which moves half of them at most.
+    /// Cells of one prefix in a row cost one look-up, and each takes a constant time where the prefixes that change rise.
+    /// Where other cells of the slot at greater prefixes are dirty, its place is put between theirs: that takes about the
+    /// logarithm of their number, and moves half of them at most.
     pub fn set(&mut self, slot: Slot, p: Prefix, value: Option<RouteNo>) -> bool
         requires member { slot < self.old.members }
         requires opened { is_opened self.old p ≡ true }

@@ -2,7 +2,6 @@ use crate::OutTable;
 use rcp_base::{Prefix, Slot};
 use rcp_model::RouteNo;
 use std::alloc::Global;
-use std::collections::{BTreeMap, BTreeSet};
 use std::test::Fail;
 
 /// 10.0.N.0/24.
@@ -87,38 +86,5 @@ fn clear_leaves_the_other_slots(rt: HostRuntime) -> Result<(), Fail> {
     assert_eq!(rt; table.next_opened(None), Some(a));
     assert_eq!(rt; table.next_opened(Some(a)), Some(b));
     assert_eq!(rt; table.next_opened(Some(c)), None);
-    Ok(())
-}
-
-/// The same changes, in a scattered order, to a table and to a map and a set.
-#[test]
-fn answers_as_a_map_and_a_set_do(rt: HostRuntime) -> Result<(), Fail> {
-    let mut table = OutTable::new(rt.alloc(), 3);
-    let mut cells: BTreeMap<(Prefix, u16), usize> = BTreeMap::new(rt.alloc());
-    let mut dirty: BTreeSet<(u16, Prefix)> = BTreeSet::new(rt.alloc());
-    let mut step = 1u32;
-    for _turn in 0..4000 {
-        step = step.wrapping_mul(1_664_525).wrapping_add(1_013_904_223);
-        let p = prefix((step >> 24) as u8).ok_or("no prefix")?;
-        let slot = (step >> 16) as u16 % 3;
-        let number = (step >> 8) as usize % 4;
-        table.open(p)?;
-        let changes = cells.insert((p, slot), number)? != Some(number);
-        if changes {
-            dirty.insert((slot, p))?;
-        }
-        assert_eq!(rt; put(&mut table, slot, p, Some(number)), Some(changes));
-        if number == 0 {
-            let least = dirty.iter().find(|key| key.0 == slot).copied();
-            let wanted = match least {
-                Some((_, q)) => {
-                    dirty.remove(&(slot, q));
-                    Some((q, RouteNo::new(cells.get(&(q, slot)).copied().unwrap_or(0))))
-                }
-                None => None,
-            };
-            assert_eq!(rt; take(&mut table, slot), wanted);
-        }
-    }
     Ok(())
 }
