@@ -6,6 +6,7 @@ mod event;
 pub mod laws;
 mod octets;
 mod offer;
+pub mod rcs_mail;
 mod route;
 mod route_no;
 
