@@ -8,6 +8,7 @@ pub mod laws;
 mod lsa_fault;
 mod octets;
 mod offer;
+pub mod rcs_mail;
 mod route;
 mod route_no;
 
