@@ -1,10 +1,9 @@
 -- Places of groups by number.
-use Rattle.std.proofs.Common.{◌≡◌, ◌≢◌, ℕ, zero, suc, ◌+◌, ◌<◌, ◌≤◌, Bool, true, false, cond, List, [], ◌∷◌, ◌++◌, length, map, get_or, set, replicate, Option, Some, None, refl, sym, ap, subst, ◌∙◌, inl, inr, arith, length-set}
-use Rattle.std.specs.Prelude.{bytes_eq, slice_index_or, AllPairs, All, IfSome, option_map}
+use Rattle.std.proofs.Common.{◌≡◌, ◌≢◌, ℕ, zero, suc, ◌<◌, ◌≤◌, true, false, List, [], ◌∷◌, ◌++◌, length, map, get_or, set, replicate, Option, Some, None, refl, sym, ap, ◌∙◌, inl, inr, arith, length-set}
+use Rattle.std.specs.Prelude.{bytes_eq, All, IfSome, option_map}
 use Rattle.std.proofs.lemmas.Bool.{cases_eq, cases_order, false_from_ne_true}
 use Rattle.std.proofs.lemmas.List.{get_or-map, get_or-set_same, get_or-set_other, get_or_default, get_or-replicate, length-map, length-replicate}
 use Rattle.std.proofs.lemmas.List.Elements.{All-get_or, All-map}
-use Rattle.std.proofs.lemmas.Option.{none-some, same_Some}
 use Rattle.std.proofs.lemmas.Slice.Eq.{bytes_eq-Decides}
 use denote.Ref.{Bor}
 use Rattle.rcp_base.specs.IpPrefix.{IpPrefix, IsPrefix}
@@ -14,7 +13,7 @@ use Rattle.update_pack.specs.Shown.{numbered_cell}
 use Rattle.rcp_model.specs.Packing.{same_value, Group}
 use Rattle.rcp_model.proofs.PackingLemmas.{same_value-itself}
 use Rattle.update_pack.specs.Values.{octets_at}
-use Rattle.update_pack.specs.Grouping.{place_of, add_at, put_in}
+use Rattle.update_pack.specs.Grouping.{place_of, add_at}
 use Rattle.update_pack.specs.Places.{AreDistinct, place_at, AreNumbered}
 use Rattle.update_pack.proofs.GroupLemmas.{place_of-add_at, place_of-push, place_of-there}
 

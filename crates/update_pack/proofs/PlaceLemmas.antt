@@ -1,11 +1,10 @@
 -- Places of groups, as the code keeps them.
-use Rattle.std.proofs.Common.{◌≡◌, ℕ, zero, suc, ◌+◌, ◌<◌, Bool, true, false, cond, List, [], ◌∷◌, ◌++◌, length, map, get_or, set, Option, Some, None, refl, sym, ap, subst, ◌∙◌, inl, inr, arith, length-append}
-use Rattle.std.specs.Prelude.{bytes_eq, slice_index_or}
+use Rattle.std.proofs.Common.{◌≡◌, ℕ, zero, suc, ◌<◌, true, cond, List, [], ◌∷◌, ◌++◌, length, get_or, set, Option, Some, None, refl, sym, ap, ◌∙◌, arith}
+use Rattle.std.specs.Prelude.{bytes_eq}
 use Rattle.std.specs.Option.{option_eq}
 use Rattle.std.specs.HashMap.{HashMap, get, IsEmpty}
-use Rattle.std.specs.Map.{update}
 use Rattle.std.proofs.lemmas.Bool.{false≢true}
-use Rattle.std.proofs.lemmas.List.{get_or-map, length-map}
+use Rattle.std.proofs.lemmas.List.{get_or-map}
 use Rattle.std.proofs.lemmas.Slice.Eq.{bytes_eq-Decides}
 use denote.Ref.{Bor}
 use Rattle.rcp_base.specs.IpPrefix.{IpPrefix}
@@ -14,9 +13,9 @@ use Rattle.update_pack.specs.declared.group.Group.{Group}
 use Rattle.update_pack.specs.declared.key.OctetsKey.{OctetsKey}
 use Rattle.update_pack.specs.Values.{value_in}
 use Rattle.update_pack.specs.Shown.{group_in, groups_in}
-use Rattle.update_pack.specs.Grouping.{place_of, add_at, put_in}
+use Rattle.update_pack.specs.Grouping.{place_of, add_at}
 use Rattle.update_pack.specs.Places.{same_key, ArePlaces, IsAPlace}
-use Rattle.update_pack.proofs.GroupLemmas.{put_in-at, put_in-new, place_of-add_at, value-add_at, length-add_at, place_of-push, IsThere, place_of-there}
+use Rattle.update_pack.proofs.GroupLemmas.{place_of-add_at, value-add_at, length-add_at, place_of-push, place_of-there}
 
 -- the group before has these octets
 pub same_attrs : (attrs : Option (Bor (List ℕ))) (octets : Bor (List ℕ)) → option_eq (λ x y. bytes_eq x.now y.now) attrs (Some octets) ≡ true → value_in attrs ≡ Some octets.now

@@ -42,7 +42,7 @@ pub fn pack_numbered(
     let mut groups = no_groups(alloc)?;
     let mut places = vec![in alloc; 0; attrs.len()]?;
     for cell in cells {
-        // To read its length tells that a prefix is in form.
+        // A prefix is known to be in form once its length is read.
         prove!(cell.prefix.len() <= 32);
         put_numbered(alloc, &mut groups, &mut places, cell, attrs)?;
     }

@@ -46,7 +46,7 @@ fn cell_of(offer: &Offer) -> (Prefix, Option<&[u8]>)
     ensures attrs { value_in result.1 ≡ offer.now.attrs }
     ensures sendable { IsSendable (cell_of offer.now) }
 {
-    // To read its length tells that a prefix is in form.
+    // A prefix is known to be in form once its length is read.
     prove!(offer.prefix.len() <= 32);
     let attrs = match &offer.attrs {
         Some(attrs) => Some(attrs.as_slice()),

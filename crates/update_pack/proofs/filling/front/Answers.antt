@@ -1,6 +1,5 @@
 -- Each prefix that is counted goes into the piece, and the first that has no room opens the next one.
-use Rattle.std.proofs.Common.{◌≡◌, ◌≤◌, ◌<◌, ◌+◌, get_or, length, arith, ap, subst, sym}
-use Rattle.rcp_base.specs.IpPrefix.{prefix_octets}
+use Rattle.std.proofs.Common.{◌≡◌, ◌+◌, length, arith, subst, sym}
 use Rattle.update_pack.specs.Values.{value_in}
 use Rattle.update_pack.proofs.FillLemmas.{front-none, front-some, front-more, front-stop, front-end, front-fits, IsFront}
 use Rattle.update_pack.proofs.filling.front.Goals as goal

@@ -1,9 +1,9 @@
 -- Each cell goes into the group of its number, and the messages are those of all groups.
-use Rattle.std.proofs.Common.{◌≡◌, ◌∷◌, [], ℕ, List, Option, Some, None, length, map, ◌<◌, refl, sym, ap, subst, ◌∙◌, arith}
-use Rattle.std.specs.Prelude.{flat_map, option_map, IfSome}
+use Rattle.std.proofs.Common.{List, None, length, ◌<◌, sym, ap, subst, ◌∙◌}
+use Rattle.std.specs.Prelude.{flat_map, IfSome}
 use Rattle.std.proofs.lemmas.Result.{IfOk-weaker}
 use Rattle.rcp_model.specs.Packing.{group_updates}
-use Rattle.rcp_model.specs.Cells.{Cell, IsSendable}
+use Rattle.rcp_model.specs.Cells.{Cell}
 use Rattle.update_pack.specs.declared.group.Group.{Group}
 use Rattle.update_pack.specs.declared.numbered.NumberedCell.{NumberedCell}
 use Rattle.update_pack.specs.Shown.{numbered_cell, groups_in}

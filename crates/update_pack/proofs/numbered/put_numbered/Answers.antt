@@ -2,10 +2,9 @@
 use Rattle.std.proofs.Common.{◌≡◌, ◌<◌, ◌++◌, ◌∷◌, [], ℕ, List, Option, Some, None, length, set, sym, ap, subst, ◌∙◌, arith}
 use Rattle.std.proofs.lemmas.List.{length-map}
 use Rattle.std.specs.Prelude.{option_map}
-use Rattle.update_pack.specs.declared.group.Group.{Group}
 use Rattle.update_pack.specs.Values.{octets_at}
-use Rattle.update_pack.specs.Shown.{group_in, groups_in, numbered_cell}
-use Rattle.update_pack.specs.Grouping.{place_of, put_in}
+use Rattle.update_pack.specs.Shown.{group_in, groups_in}
+use Rattle.update_pack.specs.Grouping.{put_in}
 use Rattle.update_pack.specs.Places.{AreNumbered}
 use Rattle.update_pack.proofs.NumberLemmas.{numbered-at, numbered-there, numbered-absent, numbered-new, octets-at}
 use Rattle.update_pack.proofs.GroupLemmas.{put_in-at, put_in-new, place_of-there}

@@ -1,5 +1,5 @@
 -- The group of the offer before, or what the map has.
-use Rattle.std.proofs.Common.{◌≡◌, Option, List, ℕ, Some, None, [], sym, ap, ◌∙◌, arith, length}
+use Rattle.std.proofs.Common.{◌≡◌, Option, List, ℕ, Some, None, [], sym, ap, ◌∙◌, arith}
 use Rattle.std.proofs.lemmas.List.{length-map}
 use Rattle.update_pack.specs.Values.{value_in}
 use Rattle.update_pack.specs.Shown.{groups_in, group_in}
