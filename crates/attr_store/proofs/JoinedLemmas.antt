@@ -72,13 +72,13 @@ module _ {S : Type 0} (kept : Slab KeptRoute) (numbers : HashMap RouteFields ℕ
         | inr other ↦ joined.indexed m a (sym (updates.others m other) ∙ e)
       ];
       live = λ route m e.
-        let before = joined.live route m e in
-        elim (cases_eq m n) [
-          | inl at ↦
-              let is : before.0 ≡ k = let f = before.1 in let g : slab.get kept m ≡ Some k = ap (slab.get kept) at ∙ here in cc in
-              (l, ap (slab.get now) at ∙ updates.changed, same ∙ ap (λ (x : KeptRoute). x.route) (sym is) ∙ before.2)
-          | inr other ↦ (before.0, updates.others m other ∙ before.1, before.2)
-        ];
+          let before = joined.live route m e in
+          elim (cases_eq m n) [
+            | inl at ↦
+                let is : before.0 ≡ k = let f = before.1 in let g : slab.get kept m ≡ Some k = ap (slab.get kept) at ∙ here in cc in
+                (l, ap (slab.get now) at ∙ updates.changed, same ∙ ap (λ (x : KeptRoute). x.route) (sym is) ∙ before.2)
+            | inr other ↦ (before.0, updates.others m other ∙ before.1, before.2)
+          ];
     }
 
     module _ {Z : Type 0} (numbers' : HashMap RouteFields ℕ Z) where
@@ -134,11 +134,14 @@ module _ {S : Type 0} (kept : Slab KeptRoute) (numbers : HashMap RouteFields ℕ
         live = λ route m e. elim (cases_Bool (same_route k.route route)) [
           | inl same ↦ let f : None ≡ Some m = sym (indexes route ∙ ap (λ (b : Bool). cond b None (hash.get same_route numbers route)) same) ∙ e in absurd cc
           | inr differs ↦
-              let before = joined.live route m (sym (indexes route ∙ ap (λ (b : Bool). cond b None (hash.get same_route numbers route)) differs) ∙ e) in
-              (before.0, updates.others m (λ at.
-                let is : k ≡ before.0 = let f = before.1 in let g : slab.get kept m ≡ Some k = ap (slab.get kept) at ∙ here in cc in
-                let r = (same_route_decides k.route route).1 (ap (λ (x : KeptRoute). x.route) is ∙ before.2) in
-                both_ways (same_route k.route route) differs r) ∙ before.1, before.2)
+              let before = joined.live route m (sym (indexes route ∙ ap (λ (b : Bool). cond b None (hash.get same_route numbers route)) differs) ∙ e) in (
+                before.0,
+                updates.others m (λ at.
+                    let is : k ≡ before.0 = let f = before.1 in let g : slab.get kept m ≡ Some k = ap (slab.get kept) at ∙ here in cc in
+                    let r = (same_route_decides k.route route).1 (ap (λ (x : KeptRoute). x.route) is ∙ before.2) in
+                    both_ways (same_route k.route route) differs r) ∙ before.1,
+                before.2,
+              )
         ];
       }
 

@@ -23,8 +23,8 @@ both s t p q = (
 pub same_route_decides : (a b : RouteFields) → Decides (same_route a b) (a ≡ b)
 same_route_decides a b =
     let fields = both _ _ (both _ _ (both _ _ (both _ _ (both _ _ (both _ _ (both _ _ (both _ _ (bytes_eq-Decides a.attrs b.attrs)
-        (Decides-eqb a.pref b.pref)) (Decides-eqb a.hops b.hops)) (Decides-eqb a.origin b.origin)) (Decides-eqb a.neighbour b.neighbour))
-        (Decides-eqb a.med b.med)) (booleans_Decides a.looped b.looped)) (booleans_Decides a.long b.long)) (Decides-eqb a.next_hop b.next_hop) in (
+    (Decides-eqb a.pref b.pref)) (Decides-eqb a.hops b.hops)) (Decides-eqb a.origin b.origin)) (Decides-eqb a.neighbour b.neighbour))
+    (Decides-eqb a.med b.med)) (booleans_Decides a.looped b.looped)) (booleans_Decides a.long b.long)) (Decides-eqb a.next_hop b.next_hop) in (
       λ e. let same = fields.0 e in λ i. record {
         pref = same.0.0.0.0.0.0.0.1 i;
         hops = same.0.0.0.0.0.0.1 i;
@@ -36,6 +36,20 @@ same_route_decides a b =
         next_hop = same.1 i;
         attrs = same.0.0.0.0.0.0.0.0 i;
       },
-      λ e. fields.1 ((((((((ap (λ (r : RouteFields). r.attrs) e, ap (λ (r : RouteFields). r.pref) e), ap (λ (r : RouteFields). r.hops) e), ap (λ (r : RouteFields). r.origin) e),
-          ap (λ (r : RouteFields). r.neighbour) e), ap (λ (r : RouteFields). r.med) e), ap (λ (r : RouteFields). r.looped) e), ap (λ (r : RouteFields). r.long) e), ap (λ (r : RouteFields). r.next_hop) e),
+      λ e. fields.1 (
+        (
+          (
+            (
+              (
+                (((ap (λ (r : RouteFields). r.attrs) e, ap (λ (r : RouteFields). r.pref) e), ap (λ (r : RouteFields). r.hops) e), ap (λ (r : RouteFields). r.origin) e),
+                ap (λ (r : RouteFields). r.neighbour) e,
+              ),
+              ap (λ (r : RouteFields). r.med) e,
+            ),
+            ap (λ (r : RouteFields). r.looped) e,
+          ),
+          ap (λ (r : RouteFields). r.long) e,
+        ),
+        ap (λ (r : RouteFields). r.next_hop) e,
+      ),
     )

@@ -28,7 +28,7 @@ returns-clause-joined c =
     let no = route_no_is c.vacant_key.result c.in-Some.number (sym c.in-Some.is ∙ c.new.ensures) in
     let rest = c.reserve.ensures.rest_kept in
     let at : c.insert_reserved.result ≡ c.in-Some.number =
-      c.insert_reserved.ensures.key ∙ ap (λ (s : Slab KeptRoute). s.vacant_key) rest ∙ sym c.vacant_key.ensures.value ∙ sym no.0 in
+    c.insert_reserved.ensures.key ∙ ap (λ (s : Slab KeptRoute). s.vacant_key) rest ∙ sym c.vacant_key.ensures.value ∙ sym no.0 in
     joined_added c.reserve.new.self c.args.numbers.now (joined (goal.at.returns-clause-joined c).After-reserve) c.insert_reserved.new.self c.insert_reserved.result c.insert.new.self
     (record { route = c.args.key; uses = 1 }) c.insert_reserved.ensures.was_vacant c.requires.absent (omega arith) (omega arith)
     (subst (λ (r : RouteFields). Updates c.reserve.new.self c.insert_reserved.new.self c.insert_reserved.result (Some (record { route = r; uses = 1 }))) (c.in-Ok.ensures.cases ∙ c.key.view_is) c.insert_reserved.ensures.updates)

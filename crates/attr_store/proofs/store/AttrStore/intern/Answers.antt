@@ -49,7 +49,7 @@ pub returns-in-Some-clause-known : goal.returns-in-Some-clause-known
 returns-in-Some-clause-known c n at =
     let step = (goal.at.returns-in-Some-clause-known c).In-Some in
     let other = number_found c.self.inside.kept c.self.inside.numbers c.self.invariant n c.args.route
-      (subst (λ (m : KeptRoutes). route_at m n ≡ Some c.args.route) (sym c.self.view_is) at) in
+    (subst (λ (m : KeptRoutes). route_at m n ≡ Some c.args.route) (sym c.self.view_is) at) in
     ap (λ (x : ℕ). Ok x) (same_number c.in-Some.number.now n (sym (found step) ∙ other))
 
 -- ---- a new one
@@ -78,7 +78,7 @@ returns-in-None-clause-once c = each_once c.add.new.kept c.add.new.numbers c.add
 pub returns-in-None-clause-known : goal.returns-in-None-clause-known
 returns-in-None-clause-known c n at =
     let there = number_found c.self.inside.kept c.self.inside.numbers c.self.invariant n c.args.route
-      (subst (λ (m : KeptRoutes). route_at m n ≡ Some c.args.route) (sym c.self.view_is) at) in
+    (subst (λ (m : KeptRoutes). route_at m n ≡ Some c.args.route) (sym c.self.view_is) at) in
     absurd (none_some n (c.in-None.ensures.value ∙ there))
 
 pub returns-in-None-clause-err : goal.returns-in-None-clause-err
