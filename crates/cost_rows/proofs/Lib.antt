@@ -4,6 +4,7 @@ pub mod SearchLemmas
 pub mod RowLemmas
 pub mod EndLemmas
 pub mod LookupLemmas
+pub mod IndexLemmas
 pub mod BoundLemmas
 pub mod KeyLemmas
 pub mod ReachLemmas

@@ -1,10 +1,11 @@
 -- A search for the least costs from one router: what it has found, and what is still to be done.
-use Rattle.std.specs.Prelude.{◌≡◌, ℕ, ◌+◌, ◌*◌, ◌^◌, ◌≤◌, ◌⊎◌, ◌==◌, List, [], ◌∷◌, ◌++◌, length, slice_get, slice_index_or, slice_set, Contains, IsPermutation, Option, Some, None, IfSome, IsSomeAnd, sum_by, map, filter_map, zip, option_map, if◌then◌else◌}
+use Rattle.std.specs.Prelude.{◌≡◌, ℕ, ◌+◌, ◌*◌, ◌^◌, ◌≤◌, ◌⊎◌, ◌==◌, List, [], ◌∷◌, ◌++◌, length, slice_get, slice_index_or, slice_set, Contains, IsPermutation, Option, Some, None, IfSome, IsSomeAnd, sum_by, map, filter_map, zip, take, drop, option_map, if◌then◌else◌}
 use Rattle.std.specs.List.{AllZip}
 use Rattle.std.specs.List.Sorted.{IsStrictlyIncreasing}
 use Rattle.std.specs.declared.cmp.Reverse.{Reverse}
 use Rattle.rcp_model.specs.declared.event.Edge.{Edge}
 use Rattle.rcp_model.specs.Costs.{Walk, cost}
+use Rattle.rcp_model.specs.Graphs.{edges_from}
 
 -- the cost found for a router, where names and costs stand at the same places
 abbrev pub found_at : List ℕ → List (Option ℕ) → ℕ → Option ℕ
@@ -86,3 +87,17 @@ pub record AreNames (edges : List Edge) (names : List ℕ) : Type 0 where
 -- the places of routers among names
 abbrev pub ArePlaces : List ℕ → List ℕ → List ℕ → Type 0
 ArePlaces names = AllZip (λ router place. slice_get names place ≡ Some router)
+
+-- the places of the routers at which edges end
+abbrev pub AreEnds : List ℕ → List Edge → List ℕ → Type 0
+AreEnds names = AllZip (λ (edge : Edge) place. slice_get names place ≡ Some edge.to)
+
+-- a run of edges: those that begin at a router
+abbrev pub IsRunOf : List Edge → ℕ → ℕ × ℕ → Type 0
+IsRunOf edges router run = (run.0 + run.1 ≤ length edges) × (take run.1 (drop run.0 edges) ≡ edges_from router edges)
+
+-- the places of a graph's edges: where each ends, and the run of each name
+pub record AreIndexed (edges : List Edge) (names ends : List ℕ) (runs : List (ℕ × ℕ)) : Type 0 where
+  pub named : AreNames edges names
+  pub ending : AreEnds names edges ends
+  pub beginning : AllZip (IsRunOf edges) names runs

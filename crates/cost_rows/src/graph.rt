@@ -1,6 +1,6 @@
 //! Graphs: the edges of an interior network, in order.
 
-ghost use Rattle.std.specs.Prelude.{◌≡◌, ◌≤◌, ◌↔◌, [], length, insert, slice_get, AllPairs, Contains, IsTrue, Some, IfOk, IfErr, OnOk, OnErr};
+ghost use Rattle.std.specs.Prelude.{◌≡◌, ◌+◌, ◌≤◌, ◌↔◌, [], length, take, drop, insert, slice_get, AllPairs, Contains, IsTrue, Some, IfOk, IfErr, OnOk, OnErr};
 ghost use Rattle.rcp_model.specs.Edges.{include_edge, is_edge_before};
 ghost use Rattle.rcp_model.specs.Graphs.{edges_from, exclude_edge};
 
@@ -38,6 +38,15 @@ impl Graph {
         Ok(Graph {
             edges: Vec::new(alloc),
         })
+    }
+
+    /// The graph of these edges: by `from`, `to` and `cost`, each once, over at most 2,560 routers, each of a cost of at most
+    /// 65,535.
+    pub fn from_edges(edges: Vec<Edge>) -> Graph
+        requires { IsGraph edges.items }
+        ensures { result ≡ edges.items }
+    {
+        Graph { edges }
     }
 
     /// A graph with the same edges. `NoMemory` comes where there was no room for them.
@@ -128,14 +137,25 @@ fn exclude(edges: &mut Vec<Edge>, edge: &Edge) -> bool
     true
 }
 
+/// Where the edges of a rising list that begin at a router stand, and how many they are.
+pub fn run_of(edges: &[Edge], router: RouterId) -> (usize, usize)
+    requires { AllPairs (λ a b. IsTrue (is_edge_before a b)) edges.now }
+    ensures within { result.0 + result.1 ≤ length edges.now }
+    ensures run { take result.1 (drop result.0 edges.now) ≡ edges_from router edges.now }
+{
+    let start = edges.partition_point(|edge| edge.from < router);
+    let (_, rest) = edges.split_at(start);
+    let count = rest.partition_point(|edge| edge.from == router);
+    (start, count)
+}
+
 /// The edges of a rising list that begin at a router.
 fn beginning_at(edges: &[Edge], router: RouterId) -> &[Edge]
     requires { AllPairs (λ a b. IsTrue (is_edge_before a b)) edges.now }
     ensures { result.now ≡ edges_from router edges.now }
 {
-    let start = edges.partition_point(|edge| edge.from < router);
+    let (start, count) = run_of(edges, router);
     let (_, rest) = edges.split_at(start);
-    let count = rest.partition_point(|edge| edge.from == router);
     let (found, _) = rest.split_at(count);
     found
 }

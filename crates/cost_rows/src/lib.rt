@@ -26,6 +26,7 @@ mod engine;
 mod graph;
 mod names;
 mod packed;
+mod places;
 mod reach;
 mod reaches;
 mod row;
@@ -34,10 +35,11 @@ mod view;
 
 pub use engine::CostEngine;
 pub use graph::Graph;
-pub use names::names_of;
+pub use names::{names_of, place_of};
 pub use packed::PackedCost;
+pub use places::{Places, places_in};
 pub use row::Row;
-pub use search::{costs, least_costs, place_of};
+pub use search::{costs, least_costs, least_costs_by};
 pub use view::View;
 
 #[cfg(test)]

@@ -1,6 +1,6 @@
 //! The routers that a search can come to, by rising ID.
 
-ghost use Rattle.std.specs.Prelude.{◌≡◌, ℕ, ◌≤◌, length, Contains, IfOk};
+ghost use Rattle.std.specs.Prelude.{◌≡◌, ℕ, ◌≤◌, length, slice_get, Contains, Some, IfOk};
 ghost use Rattle.std.specs.List.Sorted.{IsStrictlyIncreasing};
 ghost use Rattle.rcp_model.specs.Graphs.{IsGraph};
 ghost use Rattle.cost_rows.specs.Search.{AreNames, ends_of};
@@ -40,4 +40,16 @@ pub fn names_of(alloc: Global, graph: &Graph, more: &[RouterId]) -> Result<Vec<R
     names.extend_from_slice(more)?;
     sort(&mut names);
     Ok(names)
+}
+
+/// The place of a router among names that rise.
+pub fn place_of(names: &[RouterId], router: RouterId) -> usize
+    requires rising { IsStrictlyIncreasing names.now }
+    requires named { Contains names.now router }
+    ensures { slice_get names.now result ≡ Some router }
+{
+    match names.binary_search(&router) {
+        Ok(place) => place,
+        Err(_) => unreachable!(),
+    }
 }

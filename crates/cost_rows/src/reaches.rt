@@ -8,15 +8,16 @@ ghost use Rattle.rcp_model.specs.Graphs.{AreMembers, IsGraph};
 ghost use Rattle.rcp_model.specs.Maps.{get_at};
 ghost use Rattle.rcp_model.specs.LinkState.{same_number};
 ghost use Rattle.cost_rows.specs.Engines.{cost_from};
-ghost use Rattle.cost_rows.specs.Search.{AreNames, ArePlaces};
+ghost use Rattle.cost_rows.specs.Search.{AreIndexed, ArePlaces};
 ghost use Rattle.cost_rows.specs.Views.{IsReach, IsView, AreRenewals};
 
 use crate::graph::Graph;
-use crate::names::names_of;
+use crate::names::{names_of, place_of};
 use crate::packed::PackedCost;
+use crate::places::{Places, places_in};
 use crate::reach::Reach;
 use crate::row::Row;
-use crate::search::{least_costs, place_of};
+use crate::search::least_costs_by;
 use rcp_base::{Member, NoMemory, RouterId, Slot};
 use std::alloc::Global;
 use std::sync::Arc;
@@ -62,25 +63,25 @@ fn costs_at(
     Ok(costs)
 }
 
-/// What the member with this router reaches over a graph. The names are those of the graph's routers and of the members', which
-/// stand at these places.
+/// What the member with this router reaches over a graph. The members' routers are at these seats among the names of the
+/// graph's places.
 fn reach_over(
     alloc: Global,
     members: &[Member],
     graph: &Graph,
-    names: &[RouterId],
-    places: &[usize],
+    index: &Places,
+    seats: &[usize],
     root: RouterId,
 ) -> Result<Reach, NoMemory>
     requires members { AreMembers members.now }
     requires graph { IsGraph graph.now }
-    requires names { AreNames graph.now names.now }
-    requires places { ArePlaces names.now (map (λ member. member.router) members.now) places.now }
-    requires root { Contains names.now root }
+    requires indexed { AreIndexed graph.now index.now.names.items index.now.ends.items index.now.runs.items }
+    requires seats { ArePlaces index.now.names.items (map (λ member. member.router) members.now) seats.now }
+    requires root { Contains index.now.names.items root }
     ensures { IfOk result (λ reach. (slot : ℕ) → router_at members.now slot ≡ Some root → IsReach graph.now members.now slot reach) }
 {
-    let least = least_costs(alloc, graph, names, root)?;
-    let costs = costs_at(alloc, least.as_slice(), places)?;
+    let least = least_costs_by(alloc, graph, index, root)?;
+    let costs = costs_at(alloc, least.as_slice(), seats)?;
     Reach::new(alloc, members, costs)
 }
 
@@ -95,27 +96,28 @@ pub fn reaches_over(
 {
     let routers = routers_of(alloc, members)?;
     let names = names_of(alloc, graph, routers.as_slice())?;
-    let places = places_of(alloc, names.as_slice(), routers.as_slice())?;
-    each_reach(alloc, members, graph, names.as_slice(), places.as_slice())
+    let seats = places_of(alloc, names.as_slice(), routers.as_slice())?;
+    let index = places_in(alloc, graph, names.as_slice())?;
+    each_reach(alloc, members, graph, &index, seats.as_slice())
 }
 
-/// What each member reaches over a graph, whose routers and the members' have these names and places.
+/// What each member reaches over a graph with these places, where the members' routers are at these seats.
 fn each_reach(
     alloc: Global,
     members: &[Member],
     graph: &Graph,
-    names: &[RouterId],
-    places: &[usize],
+    index: &Places,
+    seats: &[usize],
 ) -> Result<Vec<Arc<Reach>>, NoMemory>
     requires members { AreMembers members.now }
     requires graph { IsGraph graph.now }
-    requires names { AreNames graph.now names.now }
-    requires places { ArePlaces names.now (map (λ member. member.router) members.now) places.now }
+    requires indexed { AreIndexed graph.now index.now.names.items index.now.ends.items index.now.runs.items }
+    requires seats { ArePlaces index.now.names.items (map (λ member. member.router) members.now) seats.now }
     ensures { IfOk result (λ reaches. IsView graph.now members.now (map (λ reach. reach.value) reaches.items)) }
 {
     let mut reaches = Vec::new(alloc);
     for member in members {
-        let reach = reach_over(alloc, members, graph, names, places, member.router)?;
+        let reach = reach_over(alloc, members, graph, index, seats, member.router)?;
         reaches.push(Arc::new(alloc, reach)?)?;
     }
     Ok(reaches)

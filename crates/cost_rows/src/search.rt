@@ -1,14 +1,15 @@
 //! The search for the least costs from one router (RFC 2328 section 16.1).
 
-ghost use Rattle.std.specs.Prelude.{◌≡◌, ℕ, ◌≤◌, ◌<◌, ◌+◌, ◌^◌, ◌↔◌, [], length, slice_get, Contains, IsTrue, Some, IfOk, OnOk, IsSomeAnd};
+ghost use Rattle.std.specs.Prelude.{◌≡◌, ℕ, ◌≤◌, ◌<◌, ◌+◌, ◌^◌, ◌↔◌, [], length, slice_get, slice_index, Contains, IsTrue, Some, IfOk, OnOk, IsSomeAnd};
 ghost use Rattle.std.specs.Bool.{OnTrue, OnFalse};
 ghost use Rattle.std.specs.BinaryHeap.{heap_items};
 ghost use Rattle.std.specs.List.Sorted.{IsStrictlyIncreasing};
 ghost use Rattle.rcp_model.specs.Graphs.{IsCostRow, edges_from};
-ghost use Rattle.cost_rows.specs.Search.{AreNames, IsSearch, IsRelaxed, IsFound, left, reached, found_at, nothing_found};
+ghost use Rattle.cost_rows.specs.Search.{AreNames, AreIndexed, IsSearch, IsRelaxed, IsFound, left, reached, found_at, nothing_found};
 
 use crate::graph::Graph;
-use crate::names::names_of;
+use crate::names::{names_of, place_of};
+use crate::places::{Places, places_in};
 use rcp_base::{NoMemory, RouterId};
 use rcp_model::Edge;
 use std::alloc::Global;
@@ -30,28 +31,6 @@ pub fn costs(alloc: Global, graph: &Graph, root: RouterId) -> Result<Vec<(Router
 /// The routers that wait until the edges from them are gone over, the one with the least cost first.
 type Waiting = BinaryHeap<(Reverse<u32>, RouterId)>;
 
-/// The place of a router among names that rise.
-pub fn place_of(names: &[RouterId], router: RouterId) -> usize
-    requires rising { IsStrictlyIncreasing names.now }
-    requires named { Contains names.now router }
-    ensures { slice_get names.now result ≡ Some router }
-{
-    match names.binary_search(&router) {
-        Ok(place) => place,
-        Err(_) => unreachable!(),
-    }
-}
-
-/// The cost found for a router.
-fn found(names: &[RouterId], least: &[Option<u32>], router: RouterId) -> Option<u32>
-    requires rising { IsStrictlyIncreasing names.now }
-    requires named { Contains names.now router }
-    requires places { length least.now ≡ length names.now }
-    ensures { result ≡ found_at names.now least.now router }
-{
-    least[place_of(names, router)]
-}
-
 /// Whether a cost is lower than the one found before.
 fn is_lower(cost: u32, found: Option<u32>) -> bool
     ensures lower { OnTrue result (¬ (IsSomeAnd found (λ n. n ≤ cost))) }
@@ -63,22 +42,25 @@ fn is_lower(cost: u32, found: Option<u32>) -> bool
     }
 }
 
-/// Goes over an edge that begins at a router of this cost: where it leads to a lower cost than was found before, the
-/// router at its end gets that one, and waits.
+/// Goes over the edge at a place of the graph, which begins at a router of this cost: where it leads to a lower cost than was found
+/// before, the router at its end gets that one, and waits.
 fn relax(
-    names: &[RouterId],
+    places: &Places,
+    at: usize,
     edge: &Edge,
     cost: u32,
     least: &mut [Option<u32>],
     waiting: &mut Waiting,
 ) -> Result<(), NoMemory>
-    requires rising { IsStrictlyIncreasing names.now }
-    requires named { Contains names.now edge.now.to }
-    requires places { length least.old ≡ length names.now }
+    requires rising { IsStrictlyIncreasing places.now.names.items }
+    requires within { at < length places.now.ends.items }
+    requires end { slice_get places.now.names.items (slice_index places.now.ends.items at) ≡ Some edge.now.to }
+    requires places { length least.old ≡ length places.now.names.items }
     requires fits { cost + edge.now.cost < 2 ^ 32 }
-    ensures { OnOk result (IsRelaxed names.now edge.now cost least.old (heap_items waiting.old) least.new (heap_items waiting.new)) }
+    ensures { OnOk result (IsRelaxed places.now.names.items edge.now cost least.old (heap_items waiting.old) least.new (heap_items waiting.new)) }
 {
-    let place = place_of(names, edge.to);
+    let ends = places.ends.as_slice();
+    let place = ends[at];
     let through = cost + edge.cost;
     if is_lower(through, least[place]) {
         waiting.push((Reverse(through), edge.to))?;
@@ -87,25 +69,30 @@ fn relax(
     Ok(())
 }
 
-/// Goes over the edges from a router that was found at this cost.
+/// Goes over the edges from the router at a place, which was found at this cost.
 fn spread(
     graph: &Graph,
-    names: &[RouterId],
-    router: RouterId,
+    places: &Places,
+    place: usize,
     cost: u32,
     least: &mut [Option<u32>],
     waiting: &mut Waiting,
 ) -> Result<(), NoMemory>
-    requires names { AreNames graph.now names.now }
-    requires found { found_at names.now least.old router ≡ Some cost }
-    requires search { (root : ℕ) × IsSearch graph.now names.now root least.old (heap_items waiting.old) (edges_from router graph.now) }
+    requires indexed { AreIndexed graph.now places.now.names.items places.now.ends.items places.now.runs.items }
+    requires within { place < length places.now.names.items }
+    requires found { found_at places.now.names.items least.old (slice_index places.now.names.items place) ≡ Some cost }
+    requires search { (root : ℕ) × IsSearch graph.now places.now.names.items root least.old (heap_items waiting.old) (edges_from (slice_index places.now.names.items place) graph.now) }
     ensures kept { OnOk result ((root : ℕ)
-        → IsSearch graph.now names.now root least.old (heap_items waiting.old) (edges_from router graph.now)
-        → IsSearch graph.now names.now root least.new (heap_items waiting.new) []) }
+        → IsSearch graph.now places.now.names.items root least.old (heap_items waiting.old) (edges_from (slice_index places.now.names.items place) graph.now)
+        → IsSearch graph.now places.now.names.items root least.new (heap_items waiting.new) []) }
     ensures falls { OnOk result (left least.new (heap_items waiting.new) ≤ left least.old (heap_items waiting.old)) }
 {
-    for edge in graph.edges_from(router) {
-        relax(names, edge, cost, least, waiting)?;
+    let runs = places.runs.as_slice();
+    let (start, count) = runs[place];
+    let (_, rest) = graph.edges().split_at(start);
+    let (run, _) = rest.split_at(count);
+    for (k, edge) in run.iter().enumerate() {
+        relax(places, start + k, edge, cost, least, waiting)?;
     }
     Ok(())
 }
@@ -115,23 +102,23 @@ fn spread(
 /// The router with the least cost found so far comes next, so that the edges of each router are gone over once.
 fn finish(
     graph: &Graph,
-    names: &[RouterId],
+    places: &Places,
     least: &mut [Option<u32>],
     waiting: &mut Waiting,
 ) -> Result<(), NoMemory>
-    requires names { AreNames graph.now names.now }
-    requires search { (root : ℕ) × IsSearch graph.now names.now root least.old (heap_items waiting.old) [] }
-    ensures { OnOk result ((root : ℕ) → IsSearch graph.now names.now root least.old (heap_items waiting.old) []
-        → IsFound graph.now names.now root least.new) }
+    requires indexed { AreIndexed graph.now places.now.names.items places.now.ends.items places.now.runs.items }
+    requires search { (root : ℕ) × IsSearch graph.now places.now.names.items root least.old (heap_items waiting.old) [] }
+    ensures { OnOk result ((root : ℕ) → IsSearch graph.now places.now.names.items root least.old (heap_items waiting.old) []
+        → IsFound graph.now places.now.names.items root least.new) }
 {
     while let Some(next) = waiting.pop() {
         let Reverse(cost) = next.0;
-        let router = next.1;
+        let place = place_of(places.names.as_slice(), next.1);
         // A router whose cost was lowered since then waits with that one too.
-        if found(names, least, router) != Some(cost) {
+        if least[place] != Some(cost) {
             continue;
         }
-        spread(graph, names, router, cost, least, waiting)?;
+        spread(graph, places, place, cost, least, waiting)?;
     }
     Ok(())
 }
@@ -143,7 +130,29 @@ fn nothing_found(alloc: Global, names: &[RouterId]) -> Result<Vec<Option<u32>>, 
     Ok(names.iter().map(|_| None).collect(alloc)?)
 }
 
-/// The least costs from a root, each at the place of its router.
+/// The least costs from a root, each at the place of its router among the names of the graph's places.
+pub fn least_costs_by(
+    alloc: Global,
+    graph: &Graph,
+    places: &Places,
+    root: RouterId,
+) -> Result<Vec<Option<u32>>, NoMemory>
+    requires indexed { AreIndexed graph.now places.now.names.items places.now.ends.items places.now.runs.items }
+    requires root { Contains places.now.names.items root }
+    ensures { IfOk result (λ least. IsFound graph.now places.now.names.items root least.items) }
+{
+    let names = places.names.as_slice();
+    let mut least = nothing_found(alloc, names)?;
+    let mut waiting = BinaryHeap::new(alloc);
+    waiting.push((Reverse(0), root))?;
+    let place = place_of(names, root);
+    least[place] = Some(0);
+    finish(graph, places, &mut least, &mut waiting)?;
+    Ok(least)
+}
+
+/// The least costs from a root, each at the place of its router. For searches from many roots the places are found once, and
+/// `least_costs_by` takes them.
 pub fn least_costs(
     alloc: Global,
     graph: &Graph,
@@ -154,13 +163,8 @@ pub fn least_costs(
     requires root { Contains names.now root }
     ensures { IfOk result (λ least. IsFound graph.now names.now root least.items) }
 {
-    let mut least = nothing_found(alloc, names)?;
-    let mut waiting = BinaryHeap::new(alloc);
-    waiting.push((Reverse(0), root))?;
-    let place = place_of(names, root);
-    least[place] = Some(0);
-    finish(graph, names, &mut least, &mut waiting)?;
-    Ok(least)
+    let places = places_in(alloc, graph, names)?;
+    least_costs_by(alloc, graph, &places, root)
 }
 
 /// The costs from a root, which is one of the names: a pair for each router that is reached, by rising ID.

@@ -7,7 +7,7 @@ use Rattle.cost_rows.proofs.reaches.each_reach.Goals as goal
 
 pub reach_over-requires-clause-root : goal.reach_over-requires-clause-root
 reach_over-requires-clause-root c =
-    place_named c.args.names.now c.args.members.now c.args.places.now c.requires.places c.loop-member.member-index c.member-item.result c.loop-member-test.true c.member-item.is
+    place_named c.args.index.now.names.items c.args.members.now c.args.seats.now c.requires.seats c.loop-member.member-index c.member-item.result c.loop-member-test.true c.member-item.is
 
 pub loop-member-preserved : goal.loop-member-preserved
 loop-member-preserved c =

@@ -1,26 +1,75 @@
-use Rattle.std.proofs.Common.{arith}
+use Rattle.std.proofs.Common.{◌∙◌, ap, sym, subst, arith, get_or, slice_index, take, drop, length}
 use Rattle.std.specs.BinaryHeap.{heap_items}
-use Rattle.cost_rows.proofs.SearchLemmas.{edge_at, edge_fits, edge_done}
+use Rattle.cost_rows.specs.Search.{IsSearch}
+use Rattle.cost_rows.proofs.IndexLemmas.{run_there, runs_reach, run_items, end_at}
+use Rattle.cost_rows.proofs.SearchLemmas.{edge_fits, edge_done}
 use Rattle.cost_rows.proofs.search.spread.Goals as goal
 
-pub relax-requires-clause-named : goal.relax-requires-clause-named
-relax-requires-clause-named c =
-    (c.requires.names.ends c.edge-item.result (edge_at c.args.graph.now c.args.router c.loop-edge.edge-index c.edges_from-edge-items.result.now c.edge-item.result c.loop-edge.invariant.items c.loop-edge-test.true c.edge-item.is).0).1
+pub bounds-runs-place : goal.bounds-runs-place
+bounds-runs-place c =
+    runs_reach c.args.graph.now c.args.places.now.names.items c.args.places.now.ends.items c.args.places.now.runs.items c.as_slice-runs.result.now c.args.place c.requires.indexed c.as_slice-runs.ensures.value c.requires.within
+
+pub bounds-runs-place-2 : goal.bounds-runs-place-2
+bounds-runs-place-2 c =
+    runs_reach c.args.graph.now c.args.places.now.names.items c.args.places.now.ends.items c.args.places.now.runs.items c.as_slice-runs.result.now c.args.place c.requires.indexed c.as_slice-runs.ensures.value c.requires.within
+
+pub split_at-requires : goal.split_at-requires
+split_at-requires c =
+    let run = run_there c.args.graph.now c.args.places.now.names.items c.args.places.now.ends.items c.args.places.now.runs.items c.as_slice-runs.result.now c.args.place c.requires.indexed c.as_slice-runs.ensures.value c.requires.within in
+    omega (arith, run.0, ap length c.edges.ensures.edges)
+
+pub split_at-requires-2 : goal.split_at-requires-2
+split_at-requires-2 c =
+    let run = run_there c.args.graph.now c.args.places.now.names.items c.args.places.now.ends.items c.args.places.now.runs.items c.as_slice-runs.result.now c.args.place c.requires.indexed c.as_slice-runs.ensures.value c.requires.within in
+    omega (arith, run.0, ap length c.edges.ensures.edges, c.split_at.ensures.back_len)
+
+pub loop-k-init : goal.loop-k-init
+loop-k-init c =
+    let run = run_there c.args.graph.now c.args.places.now.names.items c.args.places.now.ends.items c.args.places.now.runs.items c.as_slice-runs.result.now c.args.place c.requires.indexed c.as_slice-runs.ensures.value c.requires.within in
+    let is = run_items c.args.graph.now c.edges.result.now c.split_at.result.1.now c.split_at-2.result.0.now (slice_index c.args.places.now.names.items c.args.place) (get_or c.as_slice-runs.result.now c.args.place (0, 0)) run
+    c.edges.ensures.edges c.split_at.ensures.back c.split_at-2.ensures.front in
+    record {
+      some = (c.requires.search.0, subst (IsSearch c.args.graph.now c.args.places.now.names.items c.requires.search.0 c.args.least.now (heap_items c.args.waiting.now)) (sym is) c.requires.search.1);
+      kept = λ root start. subst (IsSearch c.args.graph.now c.args.places.now.names.items root c.args.least.now (heap_items c.args.waiting.now)) (sym is) start;
+      found = c.requires.found;
+      falls = omega arith;
+    }
+
+pub relax-requires-clause-within : goal.relax-requires-clause-within
+relax-requires-clause-within c =
+    let run = run_there c.args.graph.now c.args.places.now.names.items c.args.places.now.ends.items c.args.places.now.runs.items c.as_slice-runs.result.now c.args.place c.requires.indexed c.as_slice-runs.ensures.value c.requires.within in
+    (end_at c.args.graph.now c.args.places.now.names.items c.args.places.now.ends.items c.args.places.now.runs.items (get_or c.as_slice-runs.result.now c.args.place (0, 0)) c.split_at-2.result.0.now c.loop-k.k c.index-run-k.result
+    c.requires.indexed run.0
+    (c.split_at-2.ensures.front ∙ ap (take (get_or c.as_slice-runs.result.now c.args.place (0, 0)).1) (c.split_at.ensures.back ∙ ap (drop (get_or c.as_slice-runs.result.now c.args.place (0, 0)).0) c.edges.ensures.edges))
+    c.split_at-2.ensures.front_len c.loop-k-test.true c.index-run-k.is).0
+
+pub relax-requires-clause-end : goal.relax-requires-clause-end
+relax-requires-clause-end c =
+    let run = run_there c.args.graph.now c.args.places.now.names.items c.args.places.now.ends.items c.args.places.now.runs.items c.as_slice-runs.result.now c.args.place c.requires.indexed c.as_slice-runs.ensures.value c.requires.within in
+    (end_at c.args.graph.now c.args.places.now.names.items c.args.places.now.ends.items c.args.places.now.runs.items (get_or c.as_slice-runs.result.now c.args.place (0, 0)) c.split_at-2.result.0.now c.loop-k.k c.index-run-k.result
+    c.requires.indexed run.0
+    (c.split_at-2.ensures.front ∙ ap (take (get_or c.as_slice-runs.result.now c.args.place (0, 0)).1) (c.split_at.ensures.back ∙ ap (drop (get_or c.as_slice-runs.result.now c.args.place (0, 0)).0) c.edges.ensures.edges))
+    c.split_at-2.ensures.front_len c.loop-k-test.true c.index-run-k.is).1
 
 pub relax-requires-clause-fits : goal.relax-requires-clause-fits
 relax-requires-clause-fits c =
-    edge_fits c.args.graph.now c.args.names.now c.loop-edge.invariant.some.0 c.args.router c.args.cost c.loop-edge.edge-index c.loop-edge.least (heap_items c.loop-edge.waiting) c.edges_from-edge-items.result.now c.edge-item.result
-    c.requires.names c.edges_from-edge-items.ensures.kept c.loop-edge.invariant.items c.loop-edge-test.true c.edge-item.is c.loop-edge.invariant.found c.loop-edge.invariant.some.1
+    let run = run_there c.args.graph.now c.args.places.now.names.items c.args.places.now.ends.items c.args.places.now.runs.items c.as_slice-runs.result.now c.args.place c.requires.indexed c.as_slice-runs.ensures.value c.requires.within in
+    let is = run_items c.args.graph.now c.edges.result.now c.split_at.result.1.now c.split_at-2.result.0.now (slice_index c.args.places.now.names.items c.args.place) (get_or c.as_slice-runs.result.now c.args.place (0, 0)) run
+    c.edges.ensures.edges c.split_at.ensures.back c.split_at-2.ensures.front in
+    edge_fits c.args.graph.now c.args.places.now.names.items c.loop-k.invariant.some.0 (slice_index c.args.places.now.names.items c.args.place) c.args.cost c.loop-k.k c.loop-k.least (heap_items c.loop-k.waiting) c.split_at-2.result.0.now c.index-run-k.result
+    c.requires.indexed.named c.edges.ensures.kept is c.loop-k-test.true c.index-run-k.is c.loop-k.invariant.found c.loop-k.invariant.some.1
 
-pub loop-edge-preserved : goal.loop-edge-preserved
-loop-edge-preserved c =
-    let done = λ (root : _) (search : _). edge_done c.args.graph.now c.args.names.now root c.args.router c.args.cost c.loop-edge.edge-index c.loop-edge.least (heap_items c.loop-edge.waiting) c.edges_from-edge-items.result.now c.edge-item.result
-    c.requires.names c.edges_from-edge-items.ensures.kept c.loop-edge.invariant.items c.loop-edge-test.true c.edge-item.is c.loop-edge.invariant.found search c.relax.new.least (heap_items c.relax.new.waiting) c.in_ok-relax.ensures in
-    let here = done c.loop-edge.invariant.some.0 c.loop-edge.invariant.some.1 in
+pub loop-k-preserved : goal.loop-k-preserved
+loop-k-preserved c =
+    let run = run_there c.args.graph.now c.args.places.now.names.items c.args.places.now.ends.items c.args.places.now.runs.items c.as_slice-runs.result.now c.args.place c.requires.indexed c.as_slice-runs.ensures.value c.requires.within in
+    let is = run_items c.args.graph.now c.edges.result.now c.split_at.result.1.now c.split_at-2.result.0.now (slice_index c.args.places.now.names.items c.args.place) (get_or c.as_slice-runs.result.now c.args.place (0, 0)) run
+    c.edges.ensures.edges c.split_at.ensures.back c.split_at-2.ensures.front in
+    let done = λ (root : _) (search : _). edge_done c.args.graph.now c.args.places.now.names.items root (slice_index c.args.places.now.names.items c.args.place) c.args.cost c.loop-k.k c.loop-k.least (heap_items c.loop-k.waiting) c.split_at-2.result.0.now c.index-run-k.result
+    c.requires.indexed.named c.edges.ensures.kept is c.loop-k-test.true c.index-run-k.is c.loop-k.invariant.found search c.relax.new.least (heap_items c.relax.new.waiting) c.in_ok-relax.ensures in
+    let here = done c.loop-k.invariant.some.0 c.loop-k.invariant.some.1 in
     record {
-      some = (c.loop-edge.invariant.some.0, here.0);
-      kept = λ root start. (done root (c.loop-edge.invariant.kept root start)).0;
+      some = (c.loop-k.invariant.some.0, here.0);
+      kept = λ root start. (done root (c.loop-k.invariant.kept root start)).0;
       found = here.1;
       falls = omega (arith, here.2);
-      items = c.loop-edge.invariant.items;
     }

@@ -1,5 +1,5 @@
 use Rattle.cost_rows.proofs.NameLemmas.{name_found}
-use Rattle.cost_rows.proofs.search.place_of.Goals as goal
+use Rattle.cost_rows.proofs.names.place_of.Goals as goal
 
 pub unreachable-requires : goal.unreachable-requires
 unreachable-requires c = rw c.in-Err.is at (name_found c.args.names.now c.args.router c.binary_search.result c.binary_search.ensures.position c.requires.rising c.requires.named)
