@@ -62,7 +62,6 @@ fn messages_of_four_threads_come_in_each_senders_order(rt: HostRuntime) -> Resul
     let misplaced = exchange(&rt, &mut senders, &mut receiver);
     assert_eq!(rt; misplaced, 0);
     assert_eq!(rt; take(&rt, &mut receiver), None);
-    finish(&rt, senders, &mut receiver);
     Ok(())
 }
 

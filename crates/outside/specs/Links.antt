@@ -23,12 +23,12 @@ took_nothing (Ok count) [] = false
 took_nothing (Ok count) (x ∷ xs) = count == 0
 took_nothing (Err e) piece = false
 
--- a link that was closed, where it tells
+-- a link that was closed, where that is known
 abbrev pub closing : Option Bool → Option Bool
 closing None = None
 closing (Some closed) = Some true
 
--- The link is as it came: the counts of faults, of ends and of empty writes are 0; where they are told, nothing was
+-- The link is as it came: the counts of faults, of ends and of empty writes are 0; where they are known, nothing was
 -- given or taken, and it isn't closed.
 pub record IsFresh (faults ends empties : ℕ) (given taken : Option (List ℕ)) (closed : Option Bool) : Type 0 where
   pub faults_none : faults ≡ 0

@@ -1,6 +1,5 @@
 -- The history of a mark: whether it may be set, and no more.
 use Rattle.std.specs.Prelude.{◌≡◌, ℕ, zero, suc, Bool, true, false, List, [], ◌∷◌}
-use Rattle.logbook.specs.Pages.{Cell}
 
 -- what the first entry says
 abbrev pub may_be_set : List Bool → Bool

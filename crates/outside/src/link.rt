@@ -28,20 +28,20 @@ pub trait Link: Drop {
     /// How often a write of a piece that isn't empty took nothing, a count of 64 bits that saturates.
     ghost empties: { Self → ℕ };
 
-    /// The octets that reads have given, where the link tells them.
+    /// The octets that reads have given, where they are known.
     ghost given: { Self → Option (List ℕ) };
 
-    /// The octets that reads have still to give, where the link tells them.
+    /// The octets that reads have still to give, where they are known.
     ghost left: { Self → Option (List ℕ) };
 
-    /// The octets that writes have taken, where the link tells them.
+    /// The octets that writes have taken, where they are known.
     ghost taken: { Self → Option (List ℕ) };
 
-    /// Whether the link was closed, where it tells.
+    /// Whether the link was closed, where that is known.
     ghost closed: { Self → Option Bool };
 
     /// Reads the next octets into the front of `buf`, at most as many as it has. It waits for nothing: where nothing has
-    /// come it answers `NotReady`. What stands in `buf` after the octets isn't told.
+    /// come it answers `NotReady`. What stands in `buf` after the octets isn't known.
     fn read(&mut self, buf: &mut [u8]) -> Result<LinkRead, Failed>
         requires { 0 < length buf.old }
 

@@ -6,7 +6,7 @@ use crate::memory::{count_call, rest_of};
 use crate::{Failed, Link, LinkRead};
 use std::marker::Model;
 
-/// A link that gives the octets of a list and then the end, and keeps what it takes. It tells all of them.
+/// A link that gives the octets of a list and then the end, and keeps what it takes. All of them are known.
 #[derive(Debug, Drop)]
 pub struct MemLink {
     octets: Vec<u8>,

@@ -7,7 +7,7 @@ use crate::memory::count_call;
 use crate::{Accepted, Failed, Link, Net};
 use std::collections::VecDeque;
 
-/// A net that hands out the links of two lists from their fronts, and has none to give after them. It tells which links were
+/// A net that hands out the links of two lists from their fronts, and has none to give after them. Which links were
 /// handed back, as long as there is memory for them.
 #[derive(Drop)]
 pub struct MemNet<L: Link> {

@@ -35,7 +35,7 @@ pub(crate) fn count_call(calls: &mut u64, faults: &mut u64, fails: &[u64]) -> Re
     Ok(())
 }
 
-/// A source that gives the octets of a list, and tells them: in a read as many as the buffer holds, up to a bound.
+/// A source that gives the octets of a list, which are known: in a read as many as the buffer holds, up to a bound.
 #[derive(Debug, Drop)]
 pub struct MemSource {
     octets: Vec<u8>,
@@ -115,7 +115,7 @@ impl Source for MemSource {
     }
 }
 
-/// A sink that takes each piece whole and tells what it took.
+/// A sink that takes each piece whole, and whose octets are known.
 #[derive(Debug, Drop)]
 pub struct MemSink {
     octets: Vec<u8>,

@@ -26,7 +26,7 @@ pub trait Net {
     /// How many BGP links were handed out, a count of 64 bits that saturates.
     ghost handed_out: { Self → ℕ };
 
-    /// The BGP links that were handed back, in their order, where the net tells them.
+    /// The BGP links that were handed back, in their order, where they are known.
     ghost handed_back: { Self → Option (List Self.L) };
 
     /// A BGP link that has come. It has given and taken nothing, isn't closed, and its three counts are 0.
@@ -46,7 +46,7 @@ pub trait Net {
         ensures never_falls { NeverFalls (faults self.old) (faults self.new) }
         ensures count_fits { faults self.new < 2 ^ 64 };
 
-    /// Takes a BGP link back that is done with. It goes to the end of the list of these links, or the net tells the list
+    /// Takes a BGP link back that is done with. It goes to the end of the list of these links, or the list is known
     /// no longer.
     fn hand_back(&mut self, link: Self::L)
         ensures back { IfSome (handed_back self.new) (λ links. Some links ≡ followed (handed_back self.old) (link ∷ [])) }

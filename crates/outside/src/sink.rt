@@ -6,10 +6,10 @@ use crate::Failed;
 
 /// A stream of octets that is written piece by piece, as standard output.
 pub trait Sink {
-    /// How often the sink has failed, a count of 64 bits that stands still at its end.
+    /// How often the sink has failed, a count of 64 bits that saturates.
     ghost faults: { Self → ℕ };
 
-    /// The octets that were taken, where the sink tells them.
+    /// The octets that were taken, where they are known.
     ghost taken: { Self → Option (List ℕ) };
 
     /// Takes a front of the piece, and answers how many octets it has.

@@ -6,17 +6,17 @@ use crate::Failed;
 
 /// A stream of octets that is read piece by piece to its end, as standard input.
 pub trait Source {
-    /// How often the source has failed, a count of 64 bits that stands still at its end.
+    /// How often the source has failed, a count of 64 bits that saturates.
     ghost faults: { Self → ℕ };
 
-    /// The octets still to come, where the source tells them.
+    /// The octets still to come, where they are known.
     ghost left: { Self → Option (List ℕ) };
 
     /// The end of the input has been answered, or an answer of it is all that can come.
     ghost ended: { Self → Type 0 };
 
     /// Reads the next octets into the front of `buf`, at most as many as it has, and answers how many there were;
-    /// 0 is the end of the input. What stands in `buf` behind them isn't told.
+    /// 0 is the end of the input. What stands in `buf` after them isn't known.
     fn read(&mut self, buf: &mut [u8]) -> Result<usize, Failed>
         requires { 0 < length buf.old }
 
@@ -25,7 +25,7 @@ pub trait Source {
         ensures given { IfOk result (λ count. left self.old ≡ in_front (take count buf.new) (left self.new)) }
         ensures are_octets { IfSome (left self.old) AreOctets }
 
-        // 0 is the end of the input, and the end stays the end, whether the octets are told or not.
+        // 0 is the end of the input, and the end stays the end, whether the octets are known or not.
         ensures end { result ≡ Ok 0 → ended self.new }
         ensures end_stays { ended self.old → ended self.new }
         ensures after_end { ended self.old → IfOk result (λ count. count ≡ 0) }

@@ -23,7 +23,7 @@ impl Sink for Narrow {
     }
 }
 
-/// A sink that takes nothing, and doesn't tell.
+/// A sink that takes nothing, of which nothing is known.
 #[derive(Drop)]
 struct Full {
     faults: u64,

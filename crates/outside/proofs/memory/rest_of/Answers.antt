@@ -1,5 +1,5 @@
 -- What stands after the place are octets, as all of the slice are.
-use Rattle.std.proofs.Common.{◌≡◌, ◌<◌, ◌+◌, ℕ, List, length, drop, get_or, sym, ap, ◌∙◌, arith, length-drop}
+use Rattle.std.proofs.Common.{◌≡◌, ◌<◌, ◌+◌, ℕ, List, length, drop, get_or, ap, ◌∙◌, arith, length-drop}
 use Rattle.std.proofs.lemmas.List.{get_or-drop, get_or_default}
 use Rattle.outside.specs.Told.{AreOctets}
 use Rattle.outside.proofs.memory.rest_of.Goals as goal
