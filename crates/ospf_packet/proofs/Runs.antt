@@ -2,7 +2,7 @@
 use Rattle.std.proofs.Common.{◌≡◌, ◌++◌, ◌+◌, ◌-◌, ◌^◌, ◌≤◌, ◌∙◌, ◌∷◌, [], ℕ, List, length, min, ap, sym, refl, append_assoc, append-nil, length-append, arith}
 use Rattle.std.specs.List.{concat, AllByRecursion}
 use Rattle.rcp_base.specs.OspfPackets.{whole, lost, front_of, IsPacket, IsPacketRest, ReadsPackets, packets_in, rest_in}
-use Rattle.ospf_packet.specs.Framing.{Framing, Call, fed, handed, capped, at_start, after_next, Run, fed_octets, handed_packets}
+use Rattle.ospf_packet.specs.Framing.{Framing, Call, fed, handed, capped_place, at_start, after_next, Run, fed_octets, handed_packets}
 use Rattle.ospf_packet.proofs.Streams.{only_reading, packets_in-lost}
 
 -- what is handed out and then what is held are the octets that came, and the place is counted along
@@ -12,7 +12,7 @@ pub record Accounts (start : Framing) (calls : List Call) (end : Framing) : Type
   pub place : end.place ≡ min (start.place + length (concat (handed_packets calls))) (2 ^ 64 - 1)
 
 after_whole : (old : Framing) (len : ℕ) → front_of old.held ≡ whole len →
-    (let new : Framing = record { held = []; place = capped (old.place + len) } in after_next old ≡ new)
+    (let new : Framing = record { held = []; place = capped_place (old.place + len) } in after_next old ≡ new)
 after_whole old len e = rw (e, after_next) refl
 
 pub Run-accounts : (start end : Framing) (calls : List Call) → start.place ≤ 2 ^ 64 - 1 → Run start calls end → Accounts start calls end
@@ -60,7 +60,7 @@ pub Run-packets : (calls : List Call) (end : Framing) → Run at_start calls end
     (handed_packets calls ≡ packets_in (fed_octets calls)) × (end.held ≡ rest_in (fed_octets calls))
 Run-packets calls end run last = only_reading (fed_octets calls) (handed_packets calls) end.held (Run-reads calls end run last)
 
-pub Run-place : (calls : List Call) (end : Framing) → Run at_start calls end → end.place ≡ capped (length (concat (handed_packets calls)))
+pub Run-place : (calls : List Call) (end : Framing) → Run at_start calls end → end.place ≡ capped_place (length (concat (handed_packets calls)))
 Run-place calls end run =
     let all = Run-accounts at_start end calls (omega arith) run in
     omega (arith, all.place)

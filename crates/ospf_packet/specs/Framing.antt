@@ -8,8 +8,8 @@ pub record Framing : Type 0 where
   pub place : ℕ
 
 -- a place in a stream as a number of 64 bits: one beyond is told as the last
-abbrev pub capped : ℕ → ℕ
-capped place = min place (2 ^ 64 - 1)
+abbrev pub capped_place : ℕ → ℕ
+capped_place place = min place (2 ^ 64 - 1)
 
 abbrev pub at_start : Framing
 at_start = record { held = []; place = 0 }
@@ -18,7 +18,7 @@ at_start = record { held = []; place = 0 }
 abbrev pub after_next : Framing → Framing
 after_next framing =
     elim (front_of framing.held) [
-      | whole len ↦ record { held = []; place = capped (framing.place + len) }
+      | whole len ↦ record { held = []; place = capped_place (framing.place + len) }
       | part ↦ framing
       | lost ↦ framing
     ]

@@ -2,7 +2,7 @@
 ghost use Rattle.std.specs.Prelude.{◌≡◌, ◌++◌, List, ℕ, length};
 ghost use Rattle.std.specs.List.{concat};
 ghost use Rattle.rcp_base.specs.OspfPackets.{lost, front_of, ReadsPackets, IsPacketRest, packets_in, rest_in};
-ghost use Rattle.ospf_packet.specs.Framing.{Framing, Call, Run, at_start, capped, fed_octets, handed_packets};
+ghost use Rattle.ospf_packet.specs.Framing.{Framing, Call, Run, at_start, capped_place, fed_octets, handed_packets};
 
 /// Each stream has exactly one reading as whole packets and a rest that begins with none.
 pub fn one_reading()
@@ -26,7 +26,7 @@ pub fn any_cut()
     ensures packets { (calls : List Call) (end : Framing) → Run at_start calls end → IsPacketRest end.held →
         (handed_packets calls ≡ packets_in (fed_octets calls)) × (end.held ≡ rest_in (fed_octets calls)) }
     ensures place { (calls : List Call) (end : Framing) → Run at_start calls end →
-        end.place ≡ capped (length (concat (handed_packets calls))) }
+        end.place ≡ capped_place (length (concat (handed_packets calls))) }
     ensures lost { (calls : List Call) (end : Framing) → Run at_start calls end → front_of end.held ≡ lost →
         (more : List ℕ) → handed_packets calls ≡ packets_in (fed_octets calls ++ more) }
 {}
