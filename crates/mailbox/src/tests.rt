@@ -26,6 +26,14 @@ fn a_full_mailbox_hands_the_message_back_and_an_empty_one_has_none(
     Ok(())
 }
 
+#[test]
+fn senders_that_put_nothing_are_taken_back(rt: HostRuntime) -> Result<(), Fail> {
+    let (senders, mut receiver) = make::<u32, HostRuntime>(&rt, rt.alloc(), 3, 1)?;
+    finish(&rt, senders, &mut receiver);
+    assert_eq!(rt; take(&rt, &mut receiver), None);
+    Ok(())
+}
+
 /// Puts the numbers below `count`, each until there is room for it.
 fn put_all<R: Wait>(rt: &R, sender: &mut Sender<u32>, count: u32) {
     for number in 0..count {
