@@ -2,3 +2,4 @@ pub mod Values
 pub mod Grouping
 pub mod Shown
 pub mod Places
+pub mod Sample

@@ -19,9 +19,11 @@ mod filling;
 mod group;
 mod grouping;
 mod key;
+mod laws;
 mod numbered;
 mod offers;
 
+pub use laws::two_prefixes_share_an_update;
 pub use numbered::{NumberedCell, pack_numbered};
 pub use offers::pack;
 
