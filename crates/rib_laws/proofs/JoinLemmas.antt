@@ -14,8 +14,8 @@ use Rattle.rcp_model.specs.LinkState.{same_number}
 use Rattle.rcp_model.specs.Updates.{Table}
 use Rattle.rcp_model.specs.Routes.{route_in}
 use Rattle.rcp_model.specs.Decision.{choice}
-use Rattle.rcp_model.specs.Control.{Domain, Announced, Announcements, Place, Server, ServerEvent, Up, Down, Change, Links, Work, same_place, same_octets, slot_cost, announcement_contender, cons_some, candidates_from, candidates, choice_of, unless_own, announced_by, announced_at, announced_prefixes, is_connected, table_of, cost_differs, offer, worked, after, after_all}
-use Rattle.rcp_model.specs.ServerRibs.{Rib, Ribs, Reader, octets_reader, same_values, heard_contender, contenders_from, of_other, offer_of, event_of, at_prefix, with_value, without_slot, prefixes_of, with_each, is_up, is_pending, offered, ribs_after, ribs_after_all, rib_of_tables, cell_in, ribs_of}
+use Rattle.rcp_model.specs.Control.{Domain, Announced, Announcements, Place, Server, ServerEvent, Up, Down, Change, Links, Work, same_place, same_octets, slot_cost, announcement_contender, cons_some, candidates_from, candidates, choice_of, unless_own, announced_by, announced_at, announced_prefixes, is_connected, cost_differs, offer, worked, after, after_all}
+use Rattle.rcp_model.specs.ServerRibs.{Ribs, octets_reader, same_values, heard_contender, contenders_from, of_other, offer_of, event_of, at_prefix, with_value, prefixes_of, is_up, is_pending, offered, ribs_after, ribs_after_all, cell_in, ribs_of}
 use Rattle.rcp_base.proofs.MapLemmas.{same_prefix-is, prefix_test, is_among-include, is_among-include_all}
 use Rattle.rcp_model.proofs.ServerLemmas.{number_test, place_test}
 use Rattle.rcp_model.proofs.RibLemmas.{prefix_total, prefix_exact, rib_total, rib_exact}

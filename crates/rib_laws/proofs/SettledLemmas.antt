@@ -2,7 +2,6 @@
 use Rattle.std.proofs.Common.{◌≡◌, ◌≢◌, ℕ, zero, suc, ◌<◌, ◌≤◌, Bool, true, false, cond, not, ◌&&◌, ◌||◌, ◌⊎◌, eqb, List, [], ◌∷◌, length, Option, Some, None, is_some, IsSome, refl, sym, ap, ◌∙◌, inl, inr, subst, arith}
 use Rattle.std.specs.FinMap as map_of
 use Rattle.std.specs.FinSet as set_of
-use Rattle.std.specs.Int.{w16}
 use Rattle.std.specs.List.{list_any, AllByRecursion}
 use Rattle.std.specs.Ordering.{nat_cmp}
 use Rattle.std.specs.Cmp.{unsigned_tied}
@@ -15,7 +14,7 @@ use Rattle.rcp_model.specs.Maps.{get_at, same_prefix}
 use Rattle.rcp_model.specs.Updates.{Table}
 use Rattle.rcp_model.specs.Routes.{RouteFields, is_usable}
 use Rattle.rcp_model.specs.Decision.{Contender, contender, tied, is_of, is_nearer, is_lower_pair, nearest, choice}
-use Rattle.rcp_model.specs.Control.{Domain, Server, ServerEvent, router_at, slot_cost, contender_of, cons_some, offer, same_cost, cost_differs, announced_at, is_connected, is_touched, table_of, after}
+use Rattle.rcp_model.specs.Control.{Domain, Server, ServerEvent, router_at, slot_cost, contender_of, cons_some, offer, same_cost, cost_differs, announced_at, is_touched, table_of, after}
 use Rattle.rcp_model.specs.ServerRibs.{Heard, Reader, same_values, octets_reader, heard_contender, contenders_from, of_other, offer_of, RibEvent, Up, Down, Change, Links, Work, event_of, Rib, Ribs, at_prefix, with_value, without_slot, prefixes_of, cell_in, is_up, is_pending, offered, AreSettled, empty_ribs, ribs_after, ribs_of}
 use Rattle.rcp_model.proofs.MapLemmas.{same_prefix-is}
 use Rattle.rcp_model.proofs.OfferLemmas.{filter-keeps}

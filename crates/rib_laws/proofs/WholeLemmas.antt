@@ -6,7 +6,7 @@ use Rattle.std.proofs.lemmas.Bool.{and_parts, and_from, eqb-true, eq-eqb}
 use Rattle.rcp_base.specs.IpPrefix.{IpPrefix, prefix_cmp}
 use Rattle.rcp_model.specs.Maps.{same_prefix, is_among}
 use Rattle.rcp_model.specs.Assigned.{IsLeast}
-use Rattle.rcp_model.specs.ServerRibs.{Reader, Rib, Ribs, RibEvent, Work, at_prefix, with_each, is_up, is_pending, offered, ribs_after, ribs_after_all, part, is_of}
+use Rattle.rcp_model.specs.ServerRibs.{Reader, Rib, Ribs, RibEvent, Work, at_prefix, is_up, is_pending, offered, ribs_after, ribs_after_all, part, is_of}
 use Rattle.rcp_model.proofs.MapLemmas.{same_prefix-is}
 use Rattle.rcp_model.proofs.RibLemmas.{prefix_total}
 use Rattle.rib_laws.proofs.RibLookups.{prefix_tied, get-with_each}
