@@ -14,11 +14,11 @@ pub mod Graphs
 pub mod Decision
 pub mod RouteServer
 pub mod Assigned
-pub mod Pending
 pub mod Rosters
 pub mod Sessions
 pub mod Telling
 pub mod Ribs
 pub mod ServerRibs
+pub mod Pending
 pub mod Cells
 pub mod Packing

@@ -140,16 +140,16 @@ module _ (rule : IpPrefix → ℕ) (count : ℕ) (below : (p : IpPrefix) → rul
       ∙ total-more (of_number s) (rule p) count (below p)))
       s
 
-pub pending_counted : (rule : IpPrefix → ℕ) (count : ℕ) → ((p : IpPrefix) → rule p < count) → (ribs : Ribs)
+pub pending_counted : {V : Type 0} (rule : IpPrefix → ℕ) (count : ℕ) → ((p : IpPrefix) → rule p < count) → (ribs : Ribs V)
     → set_of.len ribs.pending ≡ total_below (λ n. set_of.len (part (is_of rule n) ribs).pending) count
 pending_counted rule count below ribs = counted rule count below ribs.pending
 
 -- the announced prefixes of a part are those of the whole that it owns
-announced_of_part : (owns : IpPrefix → Bool) (ribs : Ribs) → set_of.retain (prefixes_of (λ e. true) ribs.announced) owns ≡ prefixes_of (λ e. true) (part owns ribs).announced
+announced_of_part : {V : Type 0} (owns : IpPrefix → Bool) (ribs : Ribs V) → set_of.retain (prefixes_of (λ e. true) ribs.announced) owns ≡ prefixes_of (λ e. true) (part owns ribs).announced
 announced_of_part owns ribs = set_of.same_set prefix_total prefix_exact (set_of.retain (prefixes_of (λ e. true) ribs.announced) owns) (prefixes_of (λ e. true) (part owns ribs).announced)
     (λ p. contains-owned owns (prefixes_of (λ e. true) ribs.announced) p ∙ sym (prefixes-owned owns (λ e. true) ribs.announced p))
 
-pub announced_counted : (rule : IpPrefix → ℕ) (count : ℕ) → ((p : IpPrefix) → rule p < count) → (ribs : Ribs)
+pub announced_counted : {V : Type 0} (rule : IpPrefix → ℕ) (count : ℕ) → ((p : IpPrefix) → rule p < count) → (ribs : Ribs V)
     → set_of.len (prefixes_of (λ e. true) ribs.announced) ≡ total_below (λ n. set_of.len (prefixes_of (λ e. true) (part (is_of rule n) ribs).announced)) count
 announced_counted rule count below ribs =
     counted rule count below (prefixes_of (λ e. true) ribs.announced)

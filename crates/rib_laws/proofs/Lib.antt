@@ -9,3 +9,4 @@ pub mod CountLemmas
 pub mod RosterLemmas
 pub mod TwoWayLemmas
 pub mod CostCases
+pub mod ReadLemmas

@@ -86,7 +86,7 @@ split true true x y z = refl
 split true false x y z = refl
 split false b x y z = refl
 
-get-with_table : (slot : ℕ) (table : Table) (rib : Rib) (k : RibKey) → map_of.get (with_table slot table rib) k ≡ cond (eqb k.1 slot) (get_at same_prefix k.0 table) (map_of.get rib k)
+get-with_table : (slot : ℕ) (table : Table) (rib : Rib (List ℕ)) (k : RibKey) → map_of.get (with_table slot table rib) k ≡ cond (eqb k.1 slot) (get_at same_prefix k.0 table) (map_of.get rib k)
 get-with_table slot [] rib k = get-without_slot slot rib k
 get-with_table slot (cell ∷ table) rib k =
     map_of.get-insert rib_total (with_table slot table rib) (cell.0, slot) cell.1 k

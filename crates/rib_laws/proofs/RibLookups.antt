@@ -12,7 +12,7 @@ use Rattle.rcp_base.specs.IpPrefix.{IpPrefix, prefix_cmp}
 use Rattle.rcp_model.specs.Maps.{same_prefix}
 use Rattle.rcp_model.specs.RouteServer.{Announced}
 use Rattle.rcp_model.specs.Ribs.{RibKey, rib_cmp}
-use Rattle.rcp_model.specs.ServerRibs.{Rib, with_octets, without_slot, prefixes_of, with_each}
+use Rattle.rcp_model.specs.ServerRibs.{Heard, Rib, with_value, without_slot, prefixes_of, with_each}
 use Rattle.rcp_model.proofs.RibLemmas.{prefix_total, rib_total, rib_exact, rib_tied}
 
 -- ---- tests
@@ -40,31 +40,31 @@ turned false x y = refl
 
 -- ---- look-ups
 
-pub get-with_octets : (key : RibKey) (octets : Option (List ℕ)) (rib : Rib) (k : RibKey) → map_of.get (with_octets key octets rib) k ≡ cond (same_prefix k.0 key.0 && eqb k.1 key.1) octets (map_of.get rib k)
-get-with_octets key None rib k = map_of.get-remove rib_total rib key k ∙ ap (λ b. cond b None (map_of.get rib k)) (key_tied k key)
-get-with_octets key (Some octets) rib k = map_of.get-insert rib_total rib key octets k ∙ ap (λ b. cond b (Some octets) (map_of.get rib k)) (key_tied k key)
+pub get-with_value : {V : Type 0} (key : RibKey) (value : Option V) (rib : Rib V) (k : RibKey) → map_of.get (with_value key value rib) k ≡ cond (same_prefix k.0 key.0 && eqb k.1 key.1) value (map_of.get rib k)
+get-with_value key None rib k = map_of.get-remove rib_total rib key k ∙ ap (λ b. cond b None (map_of.get rib k)) (key_tied k key)
+get-with_value key (Some value) rib k = map_of.get-insert rib_total rib key value k ∙ ap (λ b. cond b (Some value) (map_of.get rib k)) (key_tied k key)
 
-pub get-retained : (test : RibKey → Bool) (rib : Rib) (k : RibKey) → map_of.get (map_of.retain_keys rib test) k ≡ cond (test k) (map_of.get rib k) None
+pub get-retained : {V : Type 0} (test : RibKey → Bool) (rib : Rib V) (k : RibKey) → map_of.get (map_of.retain_keys rib test) k ≡ cond (test k) (map_of.get rib k) None
 get-retained test rib k = map_of.get-retain_keys rib test k (λ x tied. sym (ap test (rib_exact k x tied)))
 
-pub get-without_slot : (slot : ℕ) (rib : Rib) (k : RibKey) → map_of.get (without_slot slot rib) k ≡ cond (eqb k.1 slot) None (map_of.get rib k)
+pub get-without_slot : {V : Type 0} (slot : ℕ) (rib : Rib V) (k : RibKey) → map_of.get (without_slot slot rib) k ≡ cond (eqb k.1 slot) None (map_of.get rib k)
 get-without_slot slot rib k = get-retained (λ key. not (eqb key.1 slot)) rib k ∙ turned (eqb k.1 slot) (map_of.get rib k) None
 
 -- a slot in whose favour several stand, at its own octets
-each_case : (a b c : Bool) (x y z : Option (List ℕ)) → (b ≡ true → x ≡ y) → cond (a && b) x (cond (a && c) y z) ≡ cond (a && (b || c)) y z
+each_case : {A : Type 0} (a b c : Bool) (x y z : A) → (b ≡ true → x ≡ y) → cond (a && b) x (cond (a && c) y z) ≡ cond (a && (b || c)) y z
 each_case false b c x y z same = refl
 each_case true true c x y z same = same refl
 each_case true false c x y z same = refl
 
-none_of : (a : Bool) (x y : Option (List ℕ)) → y ≡ cond (a && false) x y
+none_of : {A : Type 0} (a : Bool) (x y : A) → y ≡ cond (a && false) x y
 none_of true x y = refl
 none_of false x y = refl
 
-pub get-with_each : (p : IpPrefix) (octets : Announced) (slots : List ℕ) (rib : Rib) (k : RibKey)
+pub get-with_each : {V : Type 0} (p : IpPrefix) (octets : Heard V) (slots : List ℕ) (rib : Rib V) (k : RibKey)
     → map_of.get (with_each p octets slots rib) k ≡ cond (same_prefix k.0 p && list_any (eq_by_cmp nat_cmp k.1) slots) (octets k.1) (map_of.get rib k)
 get-with_each p octets [] rib k = none_of (same_prefix k.0 p) (octets k.1) (map_of.get rib k)
 get-with_each p octets (slot ∷ slots) rib k =
-    get-with_octets (p, slot) (octets slot) (with_each p octets slots rib) k
+    get-with_value (p, slot) (octets slot) (with_each p octets slots rib) k
     ∙ ap (cond (same_prefix k.0 p && eqb k.1 slot) (octets slot)) (get-with_each p octets slots rib k)
     ∙ each_case (same_prefix k.0 p) (eqb k.1 slot) (list_any (eq_by_cmp nat_cmp k.1) slots) (octets slot) (octets k.1) (map_of.get rib k) (λ e. ap octets (sym (eqb-true k.1 slot e)))
     ∙ ap (λ b. cond (same_prefix k.0 p && (b || list_any (eq_by_cmp nat_cmp k.1) slots)) (octets k.1) (map_of.get rib k)) (sym (unsigned_tied k.1 slot))
@@ -72,7 +72,7 @@ get-with_each p octets (slot ∷ slots) rib k =
 -- ---- the prefixes of some slots
 
 -- a slot that passes the test and has octets at the prefix
-pub record Has (test : ℕ → Bool) (rib : Rib) (p : IpPrefix) : Type 0 where
+pub record Has {V : Type 0} (test : ℕ → Bool) (rib : Rib V) (p : IpPrefix) : Type 0 where
   pub slot : ℕ
   pub passes : test slot ≡ true
   pub there : IsSome (map_of.get rib (p, slot))
@@ -91,19 +91,19 @@ key_of_any (k ∷ keys) p slot any = elim (or_cases (eq_by_cmp rib_cmp (p, slot)
   | inr later ↦ or_right (eq_by_cmp prefix_cmp p k.0) (list_any (eq_by_cmp prefix_cmp p) (map (λ l. l.0) keys)) (key_of_any keys p slot later)
 ]
 
-module _ (test : ℕ → Bool) (rib : Rib) (p : IpPrefix) where
-  kept : Rib
+module _ {V : Type 0} (test : ℕ → Bool) (rib : Rib V) (p : IpPrefix) where
+  kept : Rib V
   kept = map_of.retain_keys rib (λ key. test key.1)
 
   kept_at : (slot : ℕ) → map_of.contains_key kept (p, slot) ≡ is_some (cond (test slot) (map_of.get rib (p, slot)) None)
   unfolding kept
   kept_at slot = ap is_some (get-retained (λ key. test key.1) rib (p, slot))
 
-  passed : (b : Bool) (o : Option (List ℕ)) → is_some (cond b o None) ≡ true → (b ≡ true) × IsSome o
+  passed : (b : Bool) (o : Option V) → is_some (cond b o None) ≡ true → (b ≡ true) × IsSome o
   passed true o some = (refl, some)
   passed false o some = absurd (false≢true some)
 
-  passing : (b : Bool) (o : Option (List ℕ)) → b ≡ true → IsSome o → is_some (cond b o None) ≡ true
+  passing : (b : Bool) (o : Option V) → b ≡ true → IsSome o → is_some (cond b o None) ≡ true
   passing true o e some = some
   passing false o e some = absurd (false≢true e)
 

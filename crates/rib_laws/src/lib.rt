@@ -8,11 +8,12 @@
 //! - `pending`: which prefixes are pending after an event, exactly;
 //! - `settled`: at each other prefix each connected router has what it is offered;
 //! - `parts`: an event acts on the parts that it concerns, and the parts are the whole;
+//! - `readings`: a server of routes, read from one of octets, stays so;
 //! - `partitions`: the edges of a roster and a link state come in both directions, and the roster's names are distinct;
 //! - `assigned`: the law of `Assigned`, as generic code reads it.
 //!
 //! ```text
-//! rib_laws::parts::an_event_acts_on_the_parts_it_concerns();   // in a proof: its clause `one`, at this shard's prefixes
+//! rib_laws::parts::an_event_acts_on_the_parts_it_concerns();   // in a proof: its clause `routes`, at this shard's prefixes
 //! ```
 #![tactic(auto)]
 
@@ -21,6 +22,7 @@ pub mod join;
 pub mod partitions;
 pub mod parts;
 pub mod pending;
+pub mod readings;
 pub mod settled;
 #[cfg(test)]
 mod tests;

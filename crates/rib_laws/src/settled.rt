@@ -3,17 +3,18 @@
 
 ghost use Rattle.std.specs.Prelude.{◌≡◌, false, ℕ, List, Some};
 ghost use Rattle.rcp_base.specs.IpPrefix.{IpPrefix};
-ghost use Rattle.rcp_model.specs.declared.event.Edge.{Edge};
+ghost use Rattle.rcp_model.specs.Routes.{RouteFields};
 ghost use Rattle.rcp_model.specs.Maps.{get_at, same_prefix};
 ghost use Rattle.rcp_model.specs.Updates.{Table};
 ghost use Rattle.rcp_model.specs.RouteServer.{Domain, Server, ServerEvent, announced_at, is_pending, table_of, offer, after};
-ghost use Rattle.rcp_model.specs.ServerRibs.{Ribs, AreSettled, empty_ribs, ribs_after};
+ghost use Rattle.rib_laws.specs.Statements.{SettledFirst, SettledLater};
 
 /// The finite maps of a server are settled at the beginning and after each event.
 pub fn each_event_keeps_it()
-    ensures first { (domain : Domain) (edges : List Edge) → AreSettled domain (empty_ribs edges) }
-    ensures later { (domain : Domain) (event : ServerEvent) (ribs : Ribs)
-        → AreSettled domain ribs → AreSettled domain (ribs_after domain event ribs) }
+    ensures first_octets { SettledFirst (List ℕ) }
+    ensures later_octets { SettledLater (List ℕ) }
+    ensures first_routes { SettledFirst RouteFields }
+    ensures later_routes { SettledLater RouteFields }
 {}
 
 /// So are the tables of a server of lists.

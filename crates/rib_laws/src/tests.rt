@@ -94,12 +94,13 @@ struct Idle {
 }
 
 impl Model for Idle {
-    ghost use Rattle.std.specs.Prelude.{[]};
+    ghost use Rattle.std.specs.Prelude.{[], ℕ, List};
     ghost use Rattle.rcp_model.specs.ServerRibs.{Ribs, empty_ribs, ribs_code};
+    ghost use Rattle.std.specs.Coded.{coded_list, coded_ℕ};
 
-    ghost Value = { Ribs };
+    ghost Value = { Ribs (List ℕ) };
 
-    ghost coded = { ribs_code };
+    ghost coded = { ribs_code (coded_list coded_ℕ) };
 
     ghost view = { λ _. empty_ribs [] };
 }

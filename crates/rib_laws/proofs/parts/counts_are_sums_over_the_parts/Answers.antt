@@ -2,4 +2,4 @@ use Rattle.rib_laws.proofs.CountLemmas.{pending_counted, announced_counted}
 use Rattle.rib_laws.proofs.parts.counts_are_sums_over_the_parts.Goals as goal
 
 pub returns : goal.returns
-returns c = record { pending = pending_counted; announced = announced_counted }
+returns c = record { pending_octets = pending_counted; announced_octets = announced_counted; pending_routes = pending_counted; announced_routes = announced_counted }
