@@ -3,7 +3,7 @@ use Rattle.std.specs.Prelude.{◌≡◌, ◌≢◌, ◌⊎◌, ℕ, ◌<◌, Boo
 use Rattle.rcp_base.specs.IpPrefix.{IpPrefix}
 use Rattle.rcp_base.specs.declared.names.Member.{Member}
 use Rattle.rcp_model.specs.declared.event.Edge.{Edge}
-use Rattle.rcp_model.specs.RouteServer.{Announced, slot_cost, ServerEvent, Up, Down, Change, Links, Work}
+use Rattle.rcp_model.specs.RouteServer.{slot_cost}
 use Rattle.rcp_model.specs.ServerRibs.{Heard, RibEvent, Up, Down, Change, Links, Work}
 
 -- The prefixes that an event makes pending, where these slots are connected, have these announcements, and are linked so: with Up

@@ -14,8 +14,8 @@ use Rattle.rcp_model.specs.Maps.{get_at, same_prefix}
 use Rattle.rcp_model.specs.Routes.{RouteFields, route_in}
 use Rattle.rcp_model.specs.Updates.{Table}
 use Rattle.rcp_model.specs.Decision.{Contender, choice}
-use Rattle.rcp_model.specs.Control.{Domain, Place, Server, ServerEvent, slot_cost, contender_of, cons_some, cost_differs}
-use Rattle.rcp_model.specs.Control as lists
+use Rattle.rcp_model.specs.RouteServer.{Domain, Place, Server, ServerEvent, slot_cost, contender_of, cons_some, cost_differs}
+use Rattle.rcp_model.specs.RouteServer as lists
 use Rattle.rcp_model.specs.Ribs.{RibKey, rib_cmp, prefix_code}
 
 -- ---- what is announced
@@ -144,8 +144,8 @@ with_each p values (slot ∷ slots) rib = with_value (p, slot) (values slot) (wi
 abbrev pub is_up : {V : Type 0} → Ribs V → ℕ → Bool
 is_up ribs slot = set_of.contains ribs.connected slot
 
-abbrev pub is_pending : {V : Type 0} → Ribs V → IpPrefix → Bool
-is_pending ribs p = set_of.contains ribs.pending p
+abbrev pub has_pending : {V : Type 0} → Ribs V → IpPrefix → Bool
+has_pending ribs p = set_of.contains ribs.pending p
 
 -- what a slot is offered at a prefix
 abbrev pub offered : {V : Type 0} → Reader V → Ribs V → IpPrefix → ℕ → Option V
@@ -154,7 +154,7 @@ offered reader ribs p slot = offer_of reader (at_prefix ribs.announced p) ribs.e
 -- each connected slot was given what it is offered at each prefix that isn't pending
 abbrev pub AreSettled : {V : Type 0} → Reader V → Ribs V → Type 0
 AreSettled reader ribs =
-    (slot : ℕ) (p : IpPrefix) → is_up ribs slot ≡ true → is_pending ribs p ≡ false → at_prefix ribs.given p slot ≡ offered reader ribs p slot
+    (slot : ℕ) (p : IpPrefix) → is_up ribs slot ≡ true → has_pending ribs p ≡ false → at_prefix ribs.given p slot ≡ offered reader ribs p slot
 
 -- what each event does: the same as to the server of lists
 unfoldable pub ribs_after : {V : Type 0} → Reader V → RibEvent V → Ribs V → Ribs V
@@ -226,7 +226,7 @@ ribs_of server = record {
   connected = set_of.from_list (map (λ entry. entry.0) server.tables);
   announced = map_of.from_entries (map by_prefix server.announcements);
   given = rib_of_tables server.tables;
-  pending = set_of.from_list server.touched;
+  pending = set_of.from_list server.pending;
   edges = server.edges;
 }
 

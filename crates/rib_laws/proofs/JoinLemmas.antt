@@ -14,8 +14,8 @@ use Rattle.rcp_model.specs.LinkState.{same_number}
 use Rattle.rcp_model.specs.Updates.{Table}
 use Rattle.rcp_model.specs.Routes.{route_in}
 use Rattle.rcp_model.specs.Decision.{choice}
-use Rattle.rcp_model.specs.Control.{Domain, Announced, Announcements, Place, Server, ServerEvent, Up, Down, Change, Links, Work, same_place, same_octets, slot_cost, announcement_contender, cons_some, candidates_from, candidates, choice_of, unless_own, announced_by, announced_at, announced_prefixes, is_connected, cost_differs, offer, worked, after, after_all}
-use Rattle.rcp_model.specs.ServerRibs.{Ribs, octets_reader, same_values, heard_contender, contenders_from, of_other, offer_of, event_of, at_prefix, with_value, prefixes_of, is_up, is_pending, offered, ribs_after, ribs_after_all, cell_in, ribs_of}
+use Rattle.rcp_model.specs.RouteServer.{Domain, Announced, Announcements, Place, Server, ServerEvent, Up, Down, Change, Links, Work, same_place, same_octets, slot_cost, announcement_contender, cons_some, candidates_from, candidates, choice_of, unless_own, announced_by, announced_at, announced_prefixes, is_connected, cost_differs, offer, worked, after, after_all}
+use Rattle.rcp_model.specs.ServerRibs.{Ribs, octets_reader, same_values, heard_contender, contenders_from, of_other, offer_of, event_of, at_prefix, with_value, prefixes_of, is_up, has_pending, offered, ribs_after, ribs_after_all, cell_in, ribs_of}
 use Rattle.rcp_base.proofs.MapLemmas.{same_prefix-is, prefix_test, is_among-include, is_among-include_all}
 use Rattle.rcp_model.proofs.ServerLemmas.{number_test, place_test}
 use Rattle.rcp_model.proofs.RibLemmas.{prefix_total, prefix_exact, rib_total, rib_exact}
@@ -24,7 +24,7 @@ use Rattle.rib_laws.proofs.ListLookups.{get_at-put_at, get_at-without, get_at-se
 
 -- servers that answer alike are equal
 pub ribs_by_answers : {V : Type 0} (a b : Ribs V) → ((slot : ℕ) → is_up a slot ≡ is_up b slot) → ((p : IpPrefix) (slot : ℕ) → at_prefix a.announced p slot ≡ at_prefix b.announced p slot)
-    → ((p : IpPrefix) (slot : ℕ) → at_prefix a.given p slot ≡ at_prefix b.given p slot) → ((p : IpPrefix) → is_pending a p ≡ is_pending b p) → a.edges ≡ b.edges → a ≡ b
+    → ((p : IpPrefix) (slot : ℕ) → at_prefix a.given p slot ≡ at_prefix b.given p slot) → ((p : IpPrefix) → has_pending a p ≡ has_pending b p) → a.edges ≡ b.edges → a ≡ b
 ribs_by_answers a b up announced given pending edges =
     let connected_are : a.connected ≡ b.connected = set_of.same_set nat_cmp_total set_of.nat_cmp-IsAntisymmetric a.connected b.connected up in
     let announced_are : a.announced ≡ b.announced = map_of.same_map rib_total rib_exact a.announced b.announced (λ k. announced k.0 k.1) in
@@ -82,11 +82,11 @@ not_among p (r ∷ ps) q = at_tests (same_prefix p r) refl (same_prefix q r) ref
 -- ---- what becomes pending
 
 joined_pending : (test : ℕ → Bool) (server : Server) (ps : List IpPrefix) (p : IpPrefix) → is_among ps p ≡ is_among (of_slots test server.announcements) p
-    → is_among (include_all ps server.touched) p ≡ set_of.contains (set_of.union (ribs_of server).pending (prefixes_of test (ribs_of server).announced)) p
+    → is_among (include_all ps server.pending) p ≡ set_of.contains (set_of.union (ribs_of server).pending (prefixes_of test (ribs_of server).announced)) p
 joined_pending test server ps p are =
-    is_among-include_all ps server.touched p
+    is_among-include_all ps server.pending p
     ∙ (λ i. (are ∙ sym (prefixes_in_lists test server p)) i || sym (pending_in_lists server p) i)
-    ∙ either_order (set_of.contains (prefixes_of test (ribs_of server).announced) p) (is_pending (ribs_of server) p)
+    ∙ either_order (set_of.contains (prefixes_of test (ribs_of server).announced) p) (has_pending (ribs_of server) p)
     ∙ sym (set_of.contains-union prefix_total (ribs_of server).pending (prefixes_of test (ribs_of server).announced) p)
 
 -- ---- the events
@@ -113,7 +113,7 @@ join_up domain slot server = ribs_by_answers (ribs_of (after domain (Up slot) se
         at_test true = refl
         at_test false = refl
 
-  pending : (p : IpPrefix) → is_pending (ribs_of (after domain (Up slot) server)) p ≡ is_pending (ribs_after (octets_reader domain) (event_of (Up slot)) (ribs_of server)) p
+  pending : (p : IpPrefix) → has_pending (ribs_of (after domain (Up slot) server)) p ≡ has_pending (ribs_after (octets_reader domain) (event_of (Up slot)) (ribs_of server)) p
   pending p =
       pending_in_lists (after domain (Up slot) server) p
       ∙ joined_pending (λ e. true) server (announced_prefixes server.announcements) p (ap (λ (a : Announcements). is_among (announced_prefixes a) p) (sym (all_kept server.announcements)))
@@ -148,14 +148,14 @@ join_down domain slot server = ribs_by_answers (ribs_of (after domain (Down slot
         at_test true = refl
         at_test false = refl
 
-  pending : (p : IpPrefix) → is_pending (ribs_of (after domain (Down slot) server)) p ≡ is_pending (ribs_after (octets_reader domain) (event_of (Down slot)) (ribs_of server)) p
+  pending : (p : IpPrefix) → has_pending (ribs_of (after domain (Down slot) server)) p ≡ has_pending (ribs_after (octets_reader domain) (event_of (Down slot)) (ribs_of server)) p
   pending p =
       pending_in_lists (after domain (Down slot) server) p
       ∙ joined_pending (λ e. eqb e slot) server (of_slots (λ e. eqb e slot) server.announcements) p refl
 
 -- the server in which a slot announces this at a prefix, and the same of maps
 set_lists : ℕ → IpPrefix → Option (List ℕ) → Server → Server
-set_lists slot p octets server = record server { announcements = set_at same_place (slot, p) octets server.announcements; touched = include p server.touched }
+set_lists slot p octets server = record server { announcements = set_at same_place (slot, p) octets server.announcements; pending = include p server.pending }
 
 set_ribs : ℕ → IpPrefix → Option (List ℕ) → Ribs (List ℕ) → Ribs (List ℕ)
 set_ribs slot p octets ribs = record ribs { announced = with_value (p, slot) octets ribs.announced; pending = set_of.insert ribs.pending p }
@@ -170,10 +170,10 @@ join_set slot p octets server = ribs_by_answers (ribs_of (set_lists slot p octet
       ∙ (λ i. cond (both_orders (eqb s slot) (same_prefix q p) i) octets (sym (announced_in_lists server q s) i))
       ∙ sym (get-with_value (p, slot) octets (ribs_of server).announced (q, s))
 
-  pending : (q : IpPrefix) → is_pending (ribs_of (set_lists slot p octets server)) q ≡ is_pending (set_ribs slot p octets (ribs_of server)) q
+  pending : (q : IpPrefix) → has_pending (ribs_of (set_lists slot p octets server)) q ≡ has_pending (set_ribs slot p octets (ribs_of server)) q
   pending q =
       pending_in_lists (set_lists slot p octets server) q
-      ∙ is_among-include p q server.touched
+      ∙ is_among-include p q server.pending
       ∙ (λ i. sym (prefix_tied q p) i || sym (pending_in_lists server q) i)
       ∙ sym (set_of.contains-insert prefix_total (ribs_of server).pending p q)
 
@@ -198,7 +198,7 @@ join_change domain slot p octets server =
 join_links : (domain : Domain) (edges : List Edge) (server : Server) → ribs_of (after domain (Links edges) server) ≡ ribs_after (octets_reader domain) (event_of (Links edges)) (ribs_of server)
 unfolding after ribs_after
 join_links domain edges server = ribs_by_answers (ribs_of (after domain (Links edges) server)) (ribs_after (octets_reader domain) (event_of (Links edges)) (ribs_of server)) (λ s. refl) (λ p s. refl) (λ p s. refl) pending refl where
-  pending : (p : IpPrefix) → is_pending (ribs_of (after domain (Links edges) server)) p ≡ is_pending (ribs_after (octets_reader domain) (event_of (Links edges)) (ribs_of server)) p
+  pending : (p : IpPrefix) → has_pending (ribs_of (after domain (Links edges) server)) p ≡ has_pending (ribs_after (octets_reader domain) (event_of (Links edges)) (ribs_of server)) p
   pending p =
       pending_in_lists (after domain (Links edges) server) p
       ∙ joined_pending (λ e. cost_differs server.edges edges domain.members e (length domain.members)) server
@@ -264,10 +264,10 @@ join_work domain p server = ribs_by_answers (ribs_of (after domain (Work p) serv
             get_at-set_at same_prefix prefix_test p (offer domain (announced_at server.announcements p) server.edges s) table q
             ∙ set (same_prefix q p) (offer domain (announced_at server.announcements p) server.edges s) (get_at same_prefix q table)
 
-  pending : (q : IpPrefix) → is_pending (ribs_of (after domain (Work p) server)) q ≡ is_pending (ribs_after (octets_reader domain) (event_of (Work p)) (ribs_of server)) q
+  pending : (q : IpPrefix) → has_pending (ribs_of (after domain (Work p) server)) q ≡ has_pending (ribs_after (octets_reader domain) (event_of (Work p)) (ribs_of server)) q
   pending q =
       pending_in_lists (after domain (Work p) server) q
-      ∙ not_among p server.touched q
+      ∙ not_among p server.pending q
       ∙ (λ i. not (sym (prefix_tied q p) i) && sym (pending_in_lists server q) i)
       ∙ sym (set_of.contains-remove prefix_total (ribs_of server).pending p q)
 

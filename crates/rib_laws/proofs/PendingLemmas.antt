@@ -9,9 +9,9 @@ use Rattle.rcp_base.specs.declared.names.Member.{Member}
 use Rattle.rcp_model.specs.declared.event.Edge.{Edge}
 use Rattle.rcp_model.specs.Maps.{same_prefix}
 use Rattle.rcp_model.specs.Routes.{RouteFields}
-use Rattle.rcp_model.specs.Control.{Domain, Announced, Server, ServerEvent, same_cost, slot_cost, cost_differs, announced_at, is_connected, is_touched, after}
+use Rattle.rcp_model.specs.RouteServer.{Domain, Announced, Server, ServerEvent, same_cost, slot_cost, cost_differs, announced_at, is_connected, is_pending, after}
 use Rattle.rcp_model.specs.Pending.{IsPendingAfter}
-use Rattle.rcp_model.specs.ServerRibs.{Reader, IsExact, same_bit, same_route, same_values, octets_reader, RibEvent, Up, Down, Change, Links, Work, event_of, Ribs, at_prefix, with_value, prefixes_of, is_up, is_pending, ribs_after, ribs_of}
+use Rattle.rcp_model.specs.ServerRibs.{Reader, IsExact, same_bit, same_route, same_values, octets_reader, RibEvent, Up, Down, Change, Links, Work, event_of, Ribs, at_prefix, with_value, prefixes_of, is_up, has_pending, ribs_after, ribs_of}
 use Rattle.rcp_model.proofs.MapLemmas.{same_prefix-is, same_prefix-itself}
 use Rattle.rcp_model.proofs.RibLemmas.{prefix_total}
 use Rattle.rib_laws.proofs.RibLookups.{prefix_tied, Has, has_of_prefixes, prefixes_of_has}
@@ -126,34 +126,34 @@ test_of_moves before now members e (suc q) from below differ = at_test (eqb from
 -- ---- the events
 
 abbrev After : {V : Type 0} → Reader V → RibEvent V → Ribs V → IpPrefix → Type 0
-After reader event ribs p = IsPendingAfter reader.members (is_up ribs) (at_prefix ribs.announced) ribs.edges (is_pending ribs) event p
+After reader event ribs p = IsPendingAfter reader.members (is_up ribs) (at_prefix ribs.announced) ribs.edges (has_pending ribs) event p
 
 -- where the prefixes of some slots come in addition
 added : {V : Type 0} (test : ℕ → Bool) (ribs : Ribs V) (p : IpPrefix) (P : Type 0) → (Has test ribs.announced p → P) → (P → Has test ribs.announced p)
-    → (set_of.contains (set_of.union ribs.pending (prefixes_of test ribs.announced)) p ≡ true) ↔ (((is_pending ribs p ≡ true) × Unit {0}) ⊎ P)
+    → (set_of.contains (set_of.union ribs.pending (prefixes_of test ribs.announced)) p ≡ true) ↔ (((has_pending ribs p ≡ true) × Unit {0}) ⊎ P)
 added test ribs p P to from = (
-  (λ inside. elim (or_cases (is_pending ribs p) (set_of.contains (prefixes_of test ribs.announced) p) (sym (set_of.contains-union prefix_total ribs.pending (prefixes_of test ribs.announced) p) ∙ inside)) [
+  (λ inside. elim (or_cases (has_pending ribs p) (set_of.contains (prefixes_of test ribs.announced) p) (sym (set_of.contains-union prefix_total ribs.pending (prefixes_of test ribs.announced) p) ∙ inside)) [
     | inl was ↦ inl (was, tt)
     | inr new ↦ inr (to (has_of_prefixes test ribs.announced p new))
   ]),
   (λ cases. set_of.contains-union prefix_total ribs.pending (prefixes_of test ribs.announced) p ∙ elim cases [
-    | inl was ↦ or_left (is_pending ribs p) (set_of.contains (prefixes_of test ribs.announced) p) was.0
-    | inr new ↦ or_right (is_pending ribs p) (set_of.contains (prefixes_of test ribs.announced) p) (prefixes_of_has test ribs.announced p (from new))
+    | inl was ↦ or_left (has_pending ribs p) (set_of.contains (prefixes_of test ribs.announced) p) was.0
+    | inr new ↦ or_right (has_pending ribs p) (set_of.contains (prefixes_of test ribs.announced) p) (prefixes_of_has test ribs.announced p (from new))
   ]),
 )
 
-pending_up : {V : Type 0} (reader : Reader V) (slot : ℕ) (ribs : Ribs V) (p : IpPrefix) → (is_pending (ribs_after reader (Up slot) ribs) p ≡ true) ↔ After reader (Up slot) ribs p
+pending_up : {V : Type 0} (reader : Reader V) (slot : ℕ) (ribs : Ribs V) (p : IpPrefix) → (has_pending (ribs_after reader (Up slot) ribs) p ≡ true) ↔ After reader (Up slot) ribs p
 unfolding ribs_after
 pending_up reader slot ribs p = added (λ e. true) ribs p ((e : ℕ) × IsSome (at_prefix ribs.announced p e))
     (λ has. (has.slot, has.there)) (λ some. record { slot = some.0; passes = refl; there = some.1 })
 
-pending_down : {V : Type 0} (reader : Reader V) (slot : ℕ) (ribs : Ribs V) (p : IpPrefix) → (is_pending (ribs_after reader (Down slot) ribs) p ≡ true) ↔ After reader (Down slot) ribs p
+pending_down : {V : Type 0} (reader : Reader V) (slot : ℕ) (ribs : Ribs V) (p : IpPrefix) → (has_pending (ribs_after reader (Down slot) ribs) p ≡ true) ↔ After reader (Down slot) ribs p
 unfolding ribs_after
 pending_down reader slot ribs p = added (λ e. eqb e slot) ribs p (IsSome (at_prefix ribs.announced p slot))
     (λ has. subst (λ e. IsSome (at_prefix ribs.announced p e)) (eqb-true has.slot slot has.passes) has.there)
     (λ some. record { slot = slot; passes = eq-eqb slot slot refl; there = some })
 
-pending_links : {V : Type 0} (reader : Reader V) (edges : List Edge) (ribs : Ribs V) (p : IpPrefix) → (is_pending (ribs_after reader (Links edges) ribs) p ≡ true) ↔ After reader (Links edges) ribs p
+pending_links : {V : Type 0} (reader : Reader V) (edges : List Edge) (ribs : Ribs V) (p : IpPrefix) → (has_pending (ribs_after reader (Links edges) ribs) p ≡ true) ↔ After reader (Links edges) ribs p
 unfolding ribs_after
 pending_links reader edges ribs p = added (λ e. cost_differs ribs.edges edges reader.members e (length reader.members)) ribs p
     ((e : ℕ) × IsSome (at_prefix ribs.announced p e) × Moves ribs.edges edges reader.members e (length reader.members))
@@ -161,24 +161,24 @@ pending_links reader edges ribs p = added (λ e. cost_differs ribs.edges edges r
     (λ some. record { slot = some.0; passes = test_of_moves ribs.edges edges reader.members some.0 (length reader.members) some.2.0 some.2.1 some.2.2; there = some.1 })
 
 pending_change : {V : Type 0} (reader : Reader V) → IsExact reader.same → (slot : ℕ) (q : IpPrefix) (octets : Option V) (ribs : Ribs V) (p : IpPrefix)
-    → (is_pending (ribs_after reader (Change slot q octets) ribs) p ≡ true) ↔ After reader (Change slot q octets) ribs p
+    → (has_pending (ribs_after reader (Change slot q octets) ribs) p ≡ true) ↔ After reader (Change slot q octets) ribs p
 unfolding ribs_after
 pending_change reader exact slot q octets ribs p = at_test (is_up ribs slot) refl (not (same_values reader.same (map_of.get ribs.announced (q, slot)) octets)) refl where
   inserted : (is_up ribs slot ≡ true) → (map_of.get ribs.announced (q, slot) ≢ octets)
-      → (set_of.contains (set_of.insert ribs.pending q) p ≡ true) ↔ (((is_pending ribs p ≡ true) × Unit {0}) ⊎ ((p ≡ q) × (is_up ribs slot ≡ true) × (at_prefix ribs.announced p slot ≢ octets)))
+      → (set_of.contains (set_of.insert ribs.pending q) p ≡ true) ↔ (((has_pending ribs p ≡ true) × Unit {0}) ⊎ ((p ≡ q) × (is_up ribs slot ≡ true) × (at_prefix ribs.announced p slot ≢ octets)))
   inserted up other = (
-    (λ inside. elim (or_cases (same_prefix p q) (is_pending ribs p) (sym (ap (λ b. b || is_pending ribs p) (prefix_tied p q)) ∙ sym (set_of.contains-insert prefix_total ribs.pending q p) ∙ inside)) [
+    (λ inside. elim (or_cases (same_prefix p q) (has_pending ribs p) (sym (ap (λ b. b || has_pending ribs p) (prefix_tied p q)) ∙ sym (set_of.contains-insert prefix_total ribs.pending q p) ∙ inside)) [
       | inl here ↦ let is : p ≡ q = same_prefix-is p q here in inr (is, up, λ same. other (ap (λ r. map_of.get ribs.announced (r, slot)) (sym is) ∙ same))
       | inr was ↦ inl (was, tt)
     ]),
-    (λ cases. set_of.contains-insert prefix_total ribs.pending q p ∙ ap (λ b. b || is_pending ribs p) (prefix_tied p q) ∙ elim cases [
-      | inl was ↦ or_right (same_prefix p q) (is_pending ribs p) was.0
-      | inr new ↦ or_left (same_prefix p q) (is_pending ribs p) (subst (λ r. same_prefix p r ≡ true) new.0 (same_prefix-itself p))
+    (λ cases. set_of.contains-insert prefix_total ribs.pending q p ∙ ap (λ b. b || has_pending ribs p) (prefix_tied p q) ∙ elim cases [
+      | inl was ↦ or_right (same_prefix p q) (has_pending ribs p) was.0
+      | inr new ↦ or_left (same_prefix p q) (has_pending ribs p) (subst (λ r. same_prefix p r ≡ true) new.0 (same_prefix-itself p))
     ]),
   )
 
   kept : ((p ≡ q) → (is_up ribs slot ≡ true) → (map_of.get ribs.announced (q, slot) ≢ octets) → ⊥)
-      → (is_pending ribs p ≡ true) ↔ (((is_pending ribs p ≡ true) × Unit {0}) ⊎ ((p ≡ q) × (is_up ribs slot ≡ true) × (at_prefix ribs.announced p slot ≢ octets)))
+      → (has_pending ribs p ≡ true) ↔ (((has_pending ribs p ≡ true) × Unit {0}) ⊎ ((p ≡ q) × (is_up ribs slot ≡ true) × (at_prefix ribs.announced p slot ≢ octets)))
   kept never = (
     (λ was. inl (was, tt)),
     (λ cases. elim cases [
@@ -188,20 +188,20 @@ pending_change reader exact slot q octets ribs p = at_test (is_up ribs slot) ref
   )
 
   at_test : (up : Bool) → is_up ribs slot ≡ up → (other : Bool) → not (same_values reader.same (map_of.get ribs.announced (q, slot)) octets) ≡ other
-      → (is_pending (cond (up && other) (record ribs { announced = with_value (q, slot) octets ribs.announced; pending = set_of.insert ribs.pending q }) ribs) p ≡ true) ↔ After reader (Change slot q octets) ribs p
+      → (has_pending (cond (up && other) (record ribs { announced = with_value (q, slot) octets ribs.announced; pending = set_of.insert ribs.pending q }) ribs) p ≡ true) ↔ After reader (Change slot q octets) ribs p
   at_test true up true other = inserted up (not_same reader.same exact (map_of.get ribs.announced (q, slot)) octets other)
   at_test true up false other = kept (λ is u differ. false≢true (sym other ∙ not_from_false (same_values reader.same (map_of.get ribs.announced (q, slot)) octets) (values_differ reader.same exact (map_of.get ribs.announced (q, slot)) octets differ)))
   at_test false up other is = kept (λ same u differ. false≢true (sym up ∙ u))
 
-pending_work : {V : Type 0} (reader : Reader V) (q : IpPrefix) (ribs : Ribs V) (p : IpPrefix) → (is_pending (ribs_after reader (Work q) ribs) p ≡ true) ↔ After reader (Work q) ribs p
+pending_work : {V : Type 0} (reader : Reader V) (q : IpPrefix) (ribs : Ribs V) (p : IpPrefix) → (has_pending (ribs_after reader (Work q) ribs) p ≡ true) ↔ After reader (Work q) ribs p
 unfolding ribs_after
 pending_work reader q ribs p = (
   (λ inside.
-      let both = and_parts (not (same_prefix p q)) (is_pending ribs p) (ap (λ b. not b && is_pending ribs p) (sym (prefix_tied p q)) ∙ sym (set_of.contains-remove prefix_total ribs.pending q p) ∙ inside) in
+      let both = and_parts (not (same_prefix p q)) (has_pending ribs p) (ap (λ b. not b && has_pending ribs p) (sym (prefix_tied p q)) ∙ sym (set_of.contains-remove prefix_total ribs.pending q p) ∙ inside) in
       inl (both.1, λ same. false≢true (sym (not-true (same_prefix p q) both.0) ∙ subst (λ r. same_prefix p r ≡ true) same (same_prefix-itself p)))),
   (λ cases. elim cases [
-    | inl was ↦ set_of.contains-remove prefix_total ribs.pending q p ∙ ap (λ b. not b && is_pending ribs p) (prefix_tied p q)
-        ∙ and_from (not (same_prefix p q)) (is_pending ribs p) (apart was.1) was.0
+    | inl was ↦ set_of.contains-remove prefix_total ribs.pending q p ∙ ap (λ b. not b && has_pending ribs p) (prefix_tied p q)
+        ∙ and_from (not (same_prefix p q)) (has_pending ribs p) (apart was.1) was.0
     | inr new ↦ absurd new
   ]),
 ) where
@@ -211,7 +211,7 @@ pending_work reader q ribs p = (
     at_test true is = absurd (other (same_prefix-is p q is))
     at_test false is = refl
 
-pub pending_after : {V : Type 0} (reader : Reader V) → IsExact reader.same → (event : RibEvent V) (ribs : Ribs V) (p : IpPrefix) → (is_pending (ribs_after reader event ribs) p ≡ true) ↔ After reader event ribs p
+pub pending_after : {V : Type 0} (reader : Reader V) → IsExact reader.same → (event : RibEvent V) (ribs : Ribs V) (p : IpPrefix) → (has_pending (ribs_after reader event ribs) p ≡ true) ↔ After reader event ribs p
 pending_after reader exact (Up slot) ribs p = pending_up reader slot ribs p
 pending_after reader exact (Down slot) ribs p = pending_down reader slot ribs p
 pending_after reader exact (Change slot q octets) ribs p = pending_change reader exact slot q octets ribs p
@@ -220,12 +220,12 @@ pending_after reader exact (Work q) ribs p = pending_work reader q ribs p
 
 -- ---- the same of the server of lists
 
-pub touched_after : (domain : Domain) (event : ServerEvent) (server : Server) (p : IpPrefix)
-    → (is_touched (after domain event server) p ≡ true)
-    ↔ IsPendingAfter domain.members (is_connected server) (announced_at server.announcements) server.edges (is_touched server) (event_of event) p
-touched_after domain event server p =
+pub pending_after_in_lists : (domain : Domain) (event : ServerEvent) (server : Server) (p : IpPrefix)
+    → (is_pending (after domain event server) p ≡ true)
+    ↔ IsPendingAfter domain.members (is_connected server) (announced_at server.announcements) server.edges (is_pending server) (event_of event) p
+pending_after_in_lists domain event server p =
     subst (λ (x : (ℕ → Bool) × (IpPrefix → Announced) × (IpPrefix → Bool) × Bool). (x.3 ≡ true) ↔ IsPendingAfter domain.members x.0 x.1 server.edges x.2 (event_of event) p)
     (λ i. ((λ s. up_in_lists server s i), (λ q s. announced_in_lists server q s i), (λ q. pending_in_lists server q i), now i))
     (pending_after (octets_reader domain) octets_exact (event_of event) (ribs_of server) p) where
-      now : is_pending (ribs_after (octets_reader domain) (event_of event) (ribs_of server)) p ≡ is_touched (after domain event server) p
-      now = ap (λ (r : Ribs (List ℕ)). is_pending r p) (sym (join domain event server)) ∙ pending_in_lists (after domain event server) p
+      now : has_pending (ribs_after (octets_reader domain) (event_of event) (ribs_of server)) p ≡ is_pending (after domain event server) p
+      now = ap (λ (r : Ribs (List ℕ)). has_pending r p) (sym (join domain event server)) ∙ pending_in_lists (after domain event server) p

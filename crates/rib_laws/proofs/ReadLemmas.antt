@@ -11,7 +11,7 @@ use Rattle.rcp_model.specs.declared.event.Edge.{Edge}
 use Rattle.rcp_model.specs.Maps.{same_prefix}
 use Rattle.rcp_model.specs.Routes.{RouteFields, route_of, route_in}
 use Rattle.rcp_model.specs.Decision.{choice}
-use Rattle.rcp_model.specs.Control.{Domain, slot_cost, contender_of, cons_some, cost_differs}
+use Rattle.rcp_model.specs.RouteServer.{Domain, slot_cost, contender_of, cons_some, cost_differs}
 use Rattle.rcp_model.specs.ServerRibs.{Heard, Reader, octets_reader, route_reader, same_route, same_values, heard_contender, contenders_from, of_other, offer_of, RibEvent, Up, Down, Change, Links, Work, Rib, Ribs, at_prefix, with_value, without_slot, prefixes_of, is_up, offered, ribs_after}
 use Rattle.rcp_model.proofs.RibLemmas.{prefix_total, prefix_exact}
 use Rattle.rib_laws.specs.Readings.{IsReading, IsRead, read_event, TestsAgree, IsCanonical, IsCanonicalChange}

@@ -14,8 +14,8 @@ use Rattle.rcp_model.specs.Maps.{get_at, same_prefix}
 use Rattle.rcp_model.specs.Updates.{Table}
 use Rattle.rcp_model.specs.Routes.{RouteFields, is_usable}
 use Rattle.rcp_model.specs.Decision.{Contender, contender, tied, is_of, is_nearer, is_lower_pair, nearest, choice}
-use Rattle.rcp_model.specs.Control.{Domain, Server, ServerEvent, router_at, slot_cost, contender_of, cons_some, offer, same_cost, cost_differs, announced_at, is_touched, table_of, after}
-use Rattle.rcp_model.specs.ServerRibs.{Heard, Reader, same_values, octets_reader, heard_contender, contenders_from, of_other, offer_of, RibEvent, Up, Down, Change, Links, Work, event_of, Rib, Ribs, at_prefix, with_value, without_slot, prefixes_of, cell_in, is_up, is_pending, offered, AreSettled, empty_ribs, ribs_after, ribs_of}
+use Rattle.rcp_model.specs.RouteServer.{Domain, Server, ServerEvent, router_at, slot_cost, contender_of, cons_some, offer, same_cost, cost_differs, announced_at, is_pending, table_of, after}
+use Rattle.rcp_model.specs.ServerRibs.{Heard, Reader, same_values, octets_reader, heard_contender, contenders_from, of_other, offer_of, RibEvent, Up, Down, Change, Links, Work, event_of, Rib, Ribs, at_prefix, with_value, without_slot, prefixes_of, cell_in, is_up, has_pending, offered, AreSettled, empty_ribs, ribs_after, ribs_of}
 use Rattle.rcp_model.proofs.MapLemmas.{same_prefix-is}
 use Rattle.rcp_model.proofs.OfferLemmas.{filter-keeps}
 use Rattle.rcp_model.proofs.RibLemmas.{prefix_total}
@@ -134,9 +134,9 @@ unset {V} test rib p slot absent passes = by_cases (map_of.get rib (p, slot)) re
 
 -- a prefix that isn't pending with others in addition wasn't before, and isn't one of them
 not_added : {V : Type 0} (test : ℕ → Bool) (ribs : Ribs V) (p : IpPrefix) → set_of.contains (set_of.union ribs.pending (prefixes_of test ribs.announced)) p ≡ false
-    → (is_pending ribs p ≡ false) × (set_of.contains (prefixes_of test ribs.announced) p ≡ false)
+    → (has_pending ribs p ≡ false) × (set_of.contains (prefixes_of test ribs.announced) p ≡ false)
 not_added test ribs p absent =
-    or_parts (is_pending ribs p) (set_of.contains (prefixes_of test ribs.announced) p) (sym (set_of.contains-union prefix_total ribs.pending (prefixes_of test ribs.announced) p) ∙ absent)
+    or_parts (has_pending ribs p) (set_of.contains (prefixes_of test ribs.announced) p) (sym (set_of.contains-union prefix_total ribs.pending (prefixes_of test ribs.announced) p) ∙ absent)
 
 module _ {V : Type 0} (reader : Reader V) (ribs : Ribs V) (h : AreSettled reader ribs) where
   settled_up : (slot : ℕ) → AreSettled reader (ribs_after reader (Up slot) ribs)
@@ -184,7 +184,7 @@ module _ {V : Type 0} (reader : Reader V) (ribs : Ribs V) (h : AreSettled reader
   settled_set : (slot : ℕ) (q : IpPrefix) (octets : Option V)
       → AreSettled reader (record ribs { announced = with_value (q, slot) octets ribs.announced; pending = set_of.insert ribs.pending q })
   settled_set slot q octets s p up quiet =
-      let parts = or_parts (same_prefix p q) (is_pending ribs p) (ap (λ b. b || is_pending ribs p) (sym (prefix_tied p q)) ∙ sym (set_of.contains-insert prefix_total ribs.pending q p) ∙ quiet) in
+      let parts = or_parts (same_prefix p q) (has_pending ribs p) (ap (λ b. b || has_pending ribs p) (sym (prefix_tied p q)) ∙ sym (set_of.contains-insert prefix_total ribs.pending q p) ∙ quiet) in
       h s p up parts.1
       ∙ ap (λ announced. offer_of reader announced ribs.edges s)
       (λ i e. sym (get-with_value (q, slot) octets ribs.announced (p, e) ∙ ap (λ b. cond (b && eqb e slot) octets (map_of.get ribs.announced (p, e))) parts.0) i)
@@ -201,11 +201,11 @@ module _ {V : Type 0} (reader : Reader V) (ribs : Ribs V) (h : AreSettled reader
   settled_work q s p up quiet =
       get-with_each q (offered reader ribs q) (set_of.items ribs.connected) ribs.given (p, s)
       ∙ ap (λ b. cond (same_prefix p q && b) (offered reader ribs q s) (map_of.get ribs.given (p, s))) (sym (set_of.contains-items ribs.connected s) ∙ up)
-      ∙ at_test (same_prefix p q) refl (ap (λ b. not b && is_pending ribs p) (sym (prefix_tied p q)) ∙ sym (set_of.contains-remove prefix_total ribs.pending q p) ∙ quiet) where
-        at_test : (b : Bool) → same_prefix p q ≡ b → (not (same_prefix p q) && is_pending ribs p) ≡ false
+      ∙ at_test (same_prefix p q) refl (ap (λ b. not b && has_pending ribs p) (sym (prefix_tied p q)) ∙ sym (set_of.contains-remove prefix_total ribs.pending q p) ∙ quiet) where
+        at_test : (b : Bool) → same_prefix p q ≡ b → (not (same_prefix p q) && has_pending ribs p) ≡ false
             → cond (b && true) (offered reader ribs q s) (map_of.get ribs.given (p, s)) ≡ offer_of reader (at_prefix ribs.announced p) ribs.edges s
         at_test true same gone = ap (λ r. offered reader ribs r s) (sym (same_prefix-is p q same))
-        at_test false other gone = h s p up (ap (λ b. not b && is_pending ribs p) (sym other) ∙ gone)
+        at_test false other gone = h s p up (ap (λ b. not b && has_pending ribs p) (sym other) ∙ gone)
 
 pub settled_empty : {V : Type 0} (reader : Reader V) (edges : List Edge) → AreSettled reader (empty_ribs edges)
 settled_empty reader edges slot p up quiet = absurd (false≢true (sym (set_of.contains-empty nat_cmp slot) ∙ up))
@@ -220,7 +220,7 @@ settled_after reader (Work q) ribs h = settled_work reader ribs h q
 -- ---- of the server of lists
 
 abbrev pub TablesAreSettled : Domain → Server → Type 0
-TablesAreSettled domain server = (slot : ℕ) (table : Table) (p : IpPrefix) → table_of server slot ≡ Some table → is_touched server p ≡ false
+TablesAreSettled domain server = (slot : ℕ) (table : Table) (p : IpPrefix) → table_of server slot ≡ Some table → is_pending server p ≡ false
     → get_at same_prefix p table ≡ offer domain (announced_at server.announcements p) server.edges slot
 
 pub settled_of_tables : (domain : Domain) (server : Server) → TablesAreSettled domain server → AreSettled (octets_reader domain) (ribs_of server)

@@ -6,7 +6,7 @@ use Rattle.std.proofs.lemmas.Bool.{and_parts, and_from, eqb-true, eq-eqb}
 use Rattle.rcp_base.specs.IpPrefix.{IpPrefix, prefix_cmp}
 use Rattle.rcp_model.specs.Maps.{same_prefix, is_among}
 use Rattle.rcp_model.specs.Assigned.{IsLeast}
-use Rattle.rcp_model.specs.ServerRibs.{Reader, Rib, Ribs, RibEvent, Work, at_prefix, is_up, is_pending, offered, ribs_after, ribs_after_all, part, is_of}
+use Rattle.rcp_model.specs.ServerRibs.{Reader, Rib, Ribs, RibEvent, Work, at_prefix, is_up, has_pending, offered, ribs_after, ribs_after_all, part, is_of}
 use Rattle.rcp_model.proofs.MapLemmas.{same_prefix-is}
 use Rattle.rcp_model.proofs.RibLemmas.{prefix_total}
 use Rattle.rib_laws.proofs.RibLookups.{prefix_tied, get-with_each}
@@ -37,7 +37,7 @@ module _ (rule : IpPrefix → ℕ) (count : ℕ) (below : (p : IpPrefix) → rul
       (λ s. ap (λ (r : Ribs V). is_up r s) first)
       (λ p s. sym (found a.announced p s) ∙ ap (λ (r : Ribs V). at_prefix r.announced p s) (alike (rule p) (below p)) ∙ found b.announced p s)
       (λ p s. sym (found a.given p s) ∙ ap (λ (r : Ribs V). at_prefix r.given p s) (alike (rule p) (below p)) ∙ found b.given p s)
-      (λ p. sym (waits a.pending p) ∙ ap (λ (r : Ribs V). is_pending r p) (alike (rule p) (below p)) ∙ waits b.pending p)
+      (λ p. sym (waits a.pending p) ∙ ap (λ (r : Ribs V). has_pending r p) (alike (rule p) (below p)) ∙ waits b.pending p)
       (ap (λ (r : Ribs V). r.edges) first)
 
 -- ---- the least pending prefix of a number
@@ -47,17 +47,17 @@ least_alike P Q to from None h = λ q holds. h q (from q holds)
 least_alike P Q to from (Some p) h = (to p h.0, λ q holds before. h.1 q (from q holds) before)
 
 pub least_of_part : {V : Type 0} (rule : IpPrefix → ℕ) (number : ℕ) (ribs : Ribs V) (least : Option IpPrefix)
-    → IsLeast (λ p. (is_pending ribs p ≡ true) × (rule p ≡ number)) least ↔ IsLeast (λ p. is_pending (part (is_of rule number) ribs) p ≡ true) least
+    → IsLeast (λ p. (has_pending ribs p ≡ true) × (rule p ≡ number)) least ↔ IsLeast (λ p. has_pending (part (is_of rule number) ribs) p ≡ true) least
 least_of_part rule number ribs least = (
-  least_alike (λ p. (is_pending ribs p ≡ true) × (rule p ≡ number)) (λ p. is_pending (part (is_of rule number) ribs) p ≡ true) to from least,
-  least_alike (λ p. is_pending (part (is_of rule number) ribs) p ≡ true) (λ p. (is_pending ribs p ≡ true) × (rule p ≡ number)) from to least,
+  least_alike (λ p. (has_pending ribs p ≡ true) × (rule p ≡ number)) (λ p. has_pending (part (is_of rule number) ribs) p ≡ true) to from least,
+  least_alike (λ p. has_pending (part (is_of rule number) ribs) p ≡ true) (λ p. (has_pending ribs p ≡ true) × (rule p ≡ number)) from to least,
 ) where
-  to : (p : IpPrefix) → (is_pending ribs p ≡ true) × (rule p ≡ number) → is_pending (part (is_of rule number) ribs) p ≡ true
-  to p both = contains-owned (is_of rule number) ribs.pending p ∙ and_from (is_pending ribs p) (eqb (rule p) number) both.0 (eq-eqb (rule p) number both.1)
+  to : (p : IpPrefix) → (has_pending ribs p ≡ true) × (rule p ≡ number) → has_pending (part (is_of rule number) ribs) p ≡ true
+  to p both = contains-owned (is_of rule number) ribs.pending p ∙ and_from (has_pending ribs p) (eqb (rule p) number) both.0 (eq-eqb (rule p) number both.1)
 
-  from : (p : IpPrefix) → is_pending (part (is_of rule number) ribs) p ≡ true → (is_pending ribs p ≡ true) × (rule p ≡ number)
+  from : (p : IpPrefix) → has_pending (part (is_of rule number) ribs) p ≡ true → (has_pending ribs p ≡ true) × (rule p ≡ number)
   from p inside =
-      let parts = and_parts (is_pending ribs p) (eqb (rule p) number) (sym (contains-owned (is_of rule number) ribs.pending p) ∙ inside) in
+      let parts = and_parts (has_pending ribs p) (eqb (rule p) number) (sym (contains-owned (is_of rule number) ribs.pending p) ∙ inside) in
       (parts.0, eqb-true (rule p) number parts.1)
 
 -- ---- work in any order
@@ -68,7 +68,7 @@ record Worked {V : Type 0} (reader : Reader V) (prefixes : List IpPrefix) (befor
   announced : now.announced ≡ before.announced
   edges : now.edges ≡ before.edges
   given : (p : IpPrefix) (s : ℕ) → at_prefix now.given p s ≡ cond (is_among prefixes p && is_up before s) (offered reader before p s) (at_prefix before.given p s)
-  pending : (p : IpPrefix) → is_pending now p ≡ (not (is_among prefixes p) && is_pending before p)
+  pending : (p : IpPrefix) → has_pending now p ≡ (not (is_among prefixes p) && has_pending before p)
 
 abbrev works : {V : Type 0} → List IpPrefix → List (RibEvent V)
 works prefixes = map (λ p. Work p) prefixes
@@ -104,8 +104,8 @@ worked_all reader (q ∷ prefixes) ribs =
           (λ e. ap (λ r. offered reader ribs r s) (sym (same_prefix-is p q e)));
       pending = λ p.
           rest.pending p
-          ∙ ap (λ b. not (is_among prefixes p) && b) (set_of.contains-remove prefix_total ribs.pending q p ∙ ap (λ b. not b && is_pending ribs p) (prefix_tied p q))
-          ∙ pending_case (same_prefix p q) (is_among prefixes p) (is_pending ribs p);
+          ∙ ap (λ b. not (is_among prefixes p) && b) (set_of.contains-remove prefix_total ribs.pending q p ∙ ap (λ b. not b && has_pending ribs p) (prefix_tied p q))
+          ∙ pending_case (same_prefix p q) (is_among prefixes p) (has_pending ribs p);
     }
 
 -- the same prefixes in any order, and any number of times each
@@ -118,5 +118,5 @@ any_order {V} reader ps qs ribs same =
     (λ s. ap (λ c. set_of.contains c s) (a.connected ∙ sym b.connected))
     (λ p s. ap (λ (rib : Rib V). at_prefix rib p s) (a.announced ∙ sym b.announced))
     (λ p s. a.given p s ∙ ap (λ t. cond (t && is_up ribs s) (offered reader ribs p s) (at_prefix ribs.given p s)) (same p) ∙ sym (b.given p s))
-    (λ p. a.pending p ∙ ap (λ t. not t && is_pending ribs p) (same p) ∙ sym (b.pending p))
+    (λ p. a.pending p ∙ ap (λ t. not t && has_pending ribs p) (same p) ∙ sym (b.pending p))
     (a.edges ∙ sym b.edges)

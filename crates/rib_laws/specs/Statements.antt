@@ -6,7 +6,7 @@ use Rattle.rcp_model.specs.declared.event.Edge.{Edge}
 use Rattle.rcp_model.specs.Maps.{is_among}
 use Rattle.rcp_model.specs.Assigned.{IsLeast}
 use Rattle.rcp_model.specs.Pending.{IsPendingAfter}
-use Rattle.rcp_model.specs.ServerRibs.{Reader, IsExact, RibEvent, Work, Ribs, at_prefix, is_up, is_pending, AreSettled, empty_ribs, part, is_of, prefixes_of, concerns, ribs_after, ribs_after_all}
+use Rattle.rcp_model.specs.ServerRibs.{Reader, IsExact, RibEvent, Work, Ribs, at_prefix, is_up, has_pending, AreSettled, empty_ribs, part, is_of, prefixes_of, concerns, ribs_after, ribs_after_all}
 use Rattle.rib_laws.specs.Totals.{total_below}
 
 -- servers of which the same can be asked are equal
@@ -14,13 +14,13 @@ abbrev pub AnswersDetermine : Type 0 → Type 0
 AnswersDetermine V = (a b : Ribs V) → ((slot : ℕ) → is_up a slot ≡ is_up b slot)
     → ((p : IpPrefix) (slot : ℕ) → at_prefix a.announced p slot ≡ at_prefix b.announced p slot)
     → ((p : IpPrefix) (slot : ℕ) → at_prefix a.given p slot ≡ at_prefix b.given p slot)
-    → ((p : IpPrefix) → is_pending a p ≡ is_pending b p) → a.edges ≡ b.edges → a ≡ b
+    → ((p : IpPrefix) → has_pending a p ≡ has_pending b p) → a.edges ≡ b.edges → a ≡ b
 
 -- which prefixes are pending after an event
 abbrev pub PendingExactly : Type 0 → Type 0
 PendingExactly V = (reader : Reader V) → IsExact reader.same → (event : RibEvent V) (ribs : Ribs V) (p : IpPrefix)
-    → (is_pending (ribs_after reader event ribs) p ≡ true)
-    ↔ IsPendingAfter reader.members (is_up ribs) (at_prefix ribs.announced) ribs.edges (is_pending ribs) event p
+    → (has_pending (ribs_after reader event ribs) p ≡ true)
+    ↔ IsPendingAfter reader.members (is_up ribs) (at_prefix ribs.announced) ribs.edges (has_pending ribs) event p
 
 -- a server is settled at the beginning, and after each event
 abbrev pub SettledFirst : Type 0 → Type 0
@@ -47,8 +47,8 @@ PartsDetermine V = (rule : IpPrefix → ℕ) (count : ℕ) → ((p : IpPrefix) �
 -- the least pending prefix of a number is the least pending one of its part
 abbrev pub LeastOfPart : Type 0 → Type 0
 LeastOfPart V = (rule : IpPrefix → ℕ) (number : ℕ) (ribs : Ribs V) (least : Option IpPrefix)
-    → IsLeast (λ p. (is_pending ribs p ≡ true) × (rule p ≡ number)) least
-    ↔ IsLeast (λ p. is_pending (part (is_of rule number) ribs) p ≡ true) least
+    → IsLeast (λ p. (has_pending ribs p ≡ true) × (rule p ≡ number)) least
+    ↔ IsLeast (λ p. has_pending (part (is_of rule number) ribs) p ≡ true) least
 
 -- prefixes may be worked in any order, and one may be worked twice
 abbrev pub AnyOrder : Type 0 → Type 0

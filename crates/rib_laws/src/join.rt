@@ -3,8 +3,8 @@
 ghost use Rattle.std.specs.Prelude.{◌≡◌, ℕ, List, map};
 ghost use Rattle.rcp_base.specs.IpPrefix.{IpPrefix};
 ghost use Rattle.rcp_model.specs.Routes.{RouteFields};
-ghost use Rattle.rcp_model.specs.Control.{Domain, Server, ServerEvent, announced_by, announced_at, is_connected, is_touched, table_of, offer, after, after_all};
-ghost use Rattle.rcp_model.specs.ServerRibs.{octets_reader, event_of, at_prefix, cell_in, is_up, is_pending, offered, ribs_of, ribs_after, ribs_after_all};
+ghost use Rattle.rcp_model.specs.RouteServer.{Domain, Server, ServerEvent, announced_by, announced_at, is_connected, is_pending, table_of, offer, after, after_all};
+ghost use Rattle.rcp_model.specs.ServerRibs.{octets_reader, event_of, at_prefix, cell_in, is_up, has_pending, offered, ribs_of, ribs_after, ribs_after_all};
 ghost use Rattle.rib_laws.specs.Statements.{AnswersDetermine};
 
 /// What a server of lists comes to after an event is what it came to before, after the same event; and so for a list of
@@ -21,7 +21,7 @@ pub fn answers_are_the_same()
     ensures connected { (server : Server) (slot : ℕ) → is_up (ribs_of server) slot ≡ is_connected server slot }
     ensures announced { (server : Server) (p : IpPrefix) (slot : ℕ)
         → at_prefix (ribs_of server).announced p slot ≡ announced_by server.announcements slot p }
-    ensures pending { (server : Server) (p : IpPrefix) → is_pending (ribs_of server) p ≡ is_touched server p }
+    ensures pending { (server : Server) (p : IpPrefix) → has_pending (ribs_of server) p ≡ is_pending server p }
     ensures offered { (domain : Domain) (server : Server) (p : IpPrefix) (slot : ℕ)
         → offered (octets_reader domain) (ribs_of server) p slot ≡ offer domain (announced_at server.announcements p) server.edges slot }
 {}

@@ -3,7 +3,7 @@
 ghost use Rattle.std.specs.Prelude.{◌≡◌, true, ℕ, List, ◌↔◌, bytes_eq};
 ghost use Rattle.rcp_base.specs.IpPrefix.{IpPrefix};
 ghost use Rattle.rcp_model.specs.Routes.{RouteFields};
-ghost use Rattle.rcp_model.specs.Control.{Domain, Server, ServerEvent, announced_at, is_connected, is_touched, after};
+ghost use Rattle.rcp_model.specs.RouteServer.{Domain, Server, ServerEvent, announced_at, is_connected, is_pending, after};
 ghost use Rattle.rcp_model.specs.Pending.{IsPendingAfter};
 ghost use Rattle.rcp_model.specs.ServerRibs.{IsExact, same_route, event_of};
 ghost use Rattle.rib_laws.specs.Statements.{PendingExactly};
@@ -25,7 +25,7 @@ pub fn same_announcements_are_equal()
 /// The same of the server of lists.
 pub fn pending_prefixes_of_lists_are_exact()
     ensures { (domain : Domain) (event : ServerEvent) (server : Server) (p : IpPrefix)
-        → (is_touched (after domain event server) p ≡ true)
+        → (is_pending (after domain event server) p ≡ true)
         ↔ IsPendingAfter domain.members (is_connected server) (announced_at server.announcements) server.edges
-        (is_touched server) (event_of event) p }
+        (is_pending server) (event_of event) p }
 {}

@@ -4,7 +4,7 @@ ghost use Rattle.std.specs.Prelude.{◌≡◌, ℕ, List, option_map};
 ghost use Rattle.std.specs.Int.{w16};
 ghost use Rattle.rcp_base.specs.IpPrefix.{IpPrefix};
 ghost use Rattle.rcp_model.specs.Routes.{RouteFields, route_in};
-ghost use Rattle.rcp_model.specs.Control.{Domain};
+ghost use Rattle.rcp_model.specs.RouteServer.{Domain};
 ghost use Rattle.rcp_model.specs.ServerRibs.{Ribs, RibEvent, octets_reader, route_reader, offered, ribs_after};
 ghost use Rattle.rib_laws.specs.Readings.{IsRead, IsCanonicalChange, read_event};
 
