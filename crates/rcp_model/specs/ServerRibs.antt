@@ -21,8 +21,8 @@ use Rattle.rcp_model.specs.Ribs.{RibKey, rib_cmp, prefix_code}
 -- ---- what is announced
 
 -- who announces what at a prefix
-abbrev pub Heard : Type 0 → Type 0
-Heard V = ℕ → Option V
+abbrev pub Values : Type 0 → Type 0
+Values V = ℕ → Option V
 
 -- the routers by slot, how a route is read from what is announced, and a test of whether two announcements are the same
 pub record Reader (V : Type 0) : Type 0 where
@@ -60,26 +60,26 @@ abbrev pub route_reader : List Member → Reader RouteFields
 route_reader members = record { members = members; route = λ route. route; same = same_route }
 
 -- the contender that an announcement is, where its route is usable and its router is reached
-abbrev pub heard_contender : {V : Type 0} → (V → RouteFields) → ℕ → ℕ → Option V → Option ℕ → Option Contender
-heard_contender route slot id None cost_to = None
-heard_contender route slot id (Some value) cost_to = contender_of slot id (route value) cost_to
+abbrev pub value_contender : {V : Type 0} → (V → RouteFields) → ℕ → ℕ → Option V → Option ℕ → Option Contender
+value_contender route slot id None cost_to = None
+value_contender route slot id (Some value) cost_to = contender_of slot id (route value) cost_to
 
 -- the candidates among these members, of which the first has this slot
-abbrev pub contenders_from : {V : Type 0} → (V → RouteFields) → Heard V → (ℕ → Option ℕ) → ℕ → List Member → List Contender
-contenders_from route heard cost_to slot [] = []
-contenders_from route heard cost_to slot (member ∷ members) =
-    cons_some (heard_contender route slot member.bgp_id (heard slot) (cost_to slot)) (contenders_from route heard cost_to (suc slot) members)
+abbrev pub contenders_from : {V : Type 0} → (V → RouteFields) → Values V → (ℕ → Option ℕ) → ℕ → List Member → List Contender
+contenders_from route values cost_to slot [] = []
+contenders_from route values cost_to slot (member ∷ members) =
+    cons_some (value_contender route slot member.bgp_id (values slot) (cost_to slot)) (contenders_from route values cost_to (suc slot) members)
 
 -- what the choice announces, where it is another slot
-abbrev pub of_other : {V : Type 0} → ℕ → Heard V → Option ℕ → Option V
-of_other slot heard None = None
-of_other slot heard (Some chosen) = if chosen == slot then None else heard chosen
+abbrev pub of_other : {V : Type 0} → ℕ → Values V → Option ℕ → Option V
+of_other slot values None = None
+of_other slot values (Some chosen) = if chosen == slot then None else values chosen
 
 -- what a slot is offered at a prefix, of which these are the announcements
-unfoldable pub offer_of : {V : Type 0} → Reader V → Heard V → List Edge → ℕ → Option V
-offer_of reader heard edges slot =
-    of_other slot heard (choice slot (slot_cost edges reader.members slot)
-    (contenders_from reader.route heard (slot_cost edges reader.members slot) 0 reader.members))
+unfoldable pub offer_of : {V : Type 0} → Reader V → Values V → List Edge → ℕ → Option V
+offer_of reader values edges slot =
+    of_other slot values (choice slot (slot_cost edges reader.members slot)
+    (contenders_from reader.route values (slot_cost edges reader.members slot) 0 reader.members))
 
 -- ---- events
 
@@ -119,7 +119,7 @@ pub record Ribs (V : Type 0) : Type 0 where
 -- ---- a base
 
 -- what each slot has at a prefix
-abbrev pub at_prefix : {V : Type 0} → Rib V → IpPrefix → Heard V
+abbrev pub at_prefix : {V : Type 0} → Rib V → IpPrefix → Values V
 at_prefix rib p = λ slot. map_of.get rib (p, slot)
 
 -- the base with this value, or with none
@@ -135,7 +135,7 @@ abbrev pub prefixes_of : {V : Type 0} → (ℕ → Bool) → Rib V → Prefixes
 prefixes_of test rib = set_of.from_list (map (λ key. key.0) (map_of.keys (map_of.retain_keys rib (λ key. test key.1))))
 
 -- the base in which each of these slots has its value at the prefix
-abbrev pub with_each : {V : Type 0} → IpPrefix → Heard V → List ℕ → Rib V → Rib V
+abbrev pub with_each : {V : Type 0} → IpPrefix → Values V → List ℕ → Rib V → Rib V
 with_each p values [] rib = rib
 with_each p values (slot ∷ slots) rib = with_value (p, slot) (values slot) (with_each p values slots rib)
 

@@ -15,7 +15,7 @@ use Rattle.rcp_model.specs.Updates.{Table}
 use Rattle.rcp_model.specs.Routes.{route_in}
 use Rattle.rcp_model.specs.Decision.{choice}
 use Rattle.rcp_model.specs.Control.{Domain, Announced, Announcements, Place, Server, ServerEvent, Up, Down, Change, Links, Work, same_place, same_octets, slot_cost, announcement_contender, cons_some, candidates_from, candidates, choice_of, unless_own, announced_by, announced_at, announced_prefixes, is_connected, cost_differs, offer, worked, after, after_all}
-use Rattle.rcp_model.specs.ServerRibs.{Ribs, octets_reader, same_values, heard_contender, contenders_from, of_other, offer_of, event_of, at_prefix, with_value, prefixes_of, is_up, is_pending, offered, ribs_after, ribs_after_all, cell_in, ribs_of}
+use Rattle.rcp_model.specs.ServerRibs.{Ribs, octets_reader, same_values, value_contender, contenders_from, of_other, offer_of, event_of, at_prefix, with_value, prefixes_of, is_up, is_pending, offered, ribs_after, ribs_after_all, cell_in, ribs_of}
 use Rattle.rcp_base.proofs.MapLemmas.{same_prefix-is, prefix_test, is_among-include, is_among-include_all}
 use Rattle.rcp_model.proofs.ServerLemmas.{number_test, place_test}
 use Rattle.rcp_model.proofs.RibLemmas.{prefix_total, prefix_exact, rib_total, rib_exact}
@@ -205,7 +205,7 @@ join_links domain edges server = ribs_by_answers (ribs_of (after domain (Links e
       (of_slots (λ e. cost_differs server.edges edges domain.members e (length domain.members)) server.announcements) p refl
 
 -- what is offered in both is the same
-contender_read : (domain : Domain) (slot id : ℕ) (found : Option (List ℕ)) (cost : Option ℕ) → heard_contender (route_in w16 domain.as_number) slot id found cost ≡ announcement_contender domain slot id found cost
+contender_read : (domain : Domain) (slot id : ℕ) (found : Option (List ℕ)) (cost : Option ℕ) → value_contender (route_in w16 domain.as_number) slot id found cost ≡ announcement_contender domain slot id found cost
 contender_read domain slot id None cost = refl
 contender_read domain slot id (Some octets) cost = refl
 

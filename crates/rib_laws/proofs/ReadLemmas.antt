@@ -12,7 +12,7 @@ use Rattle.rcp_model.specs.Maps.{same_prefix}
 use Rattle.rcp_model.specs.Routes.{RouteFields, route_of, route_in}
 use Rattle.rcp_model.specs.Decision.{choice}
 use Rattle.rcp_model.specs.Control.{Domain, slot_cost, contender_of, cons_some, cost_differs}
-use Rattle.rcp_model.specs.ServerRibs.{Heard, Reader, octets_reader, route_reader, same_route, same_values, heard_contender, contenders_from, of_other, offer_of, RibEvent, Up, Down, Change, Links, Work, Rib, Ribs, at_prefix, with_value, without_slot, prefixes_of, is_up, offered, ribs_after}
+use Rattle.rcp_model.specs.ServerRibs.{Values, Reader, octets_reader, route_reader, same_route, same_values, value_contender, contenders_from, of_other, offer_of, RibEvent, Up, Down, Change, Links, Work, Rib, Ribs, at_prefix, with_value, without_slot, prefixes_of, is_up, offered, ribs_after}
 use Rattle.rcp_model.proofs.RibLemmas.{prefix_total, prefix_exact}
 use Rattle.rib_laws.specs.Readings.{IsReading, IsRead, read_event, TestsAgree, IsCanonical, IsCanonicalChange}
 use Rattle.rib_laws.proofs.PendingLemmas.{octets_exact, route_exact}
@@ -31,26 +31,26 @@ map_cond f false x y = refl
 module _ {V W : Type 0} (from : Reader V) (to : Reader W) (f : V → W) (reading : IsReading from to f) where
   -- ---- offers
 
-  contender_read : (slot id : ℕ) (found : Option V) (cost : Option ℕ) → heard_contender to.route slot id (option_map f found) cost ≡ heard_contender from.route slot id found cost
+  contender_read : (slot id : ℕ) (found : Option V) (cost : Option ℕ) → value_contender to.route slot id (option_map f found) cost ≡ value_contender from.route slot id found cost
   contender_read slot id None cost = refl
   contender_read slot id (Some value) cost = ap (λ route. contender_of slot id route cost) (reading.routes value)
 
-  contenders_read : (heard : Heard V) (cost_to : ℕ → Option ℕ) (slot : ℕ) (members : List Member)
-      → contenders_from to.route (λ s. option_map f (heard s)) cost_to slot members ≡ contenders_from from.route heard cost_to slot members
-  contenders_read heard cost_to slot [] = refl
-  contenders_read heard cost_to slot (member ∷ members) =
-      λ i. cons_some (contender_read slot member.bgp_id (heard slot) (cost_to slot) i) (contenders_read heard cost_to (suc slot) members i)
+  contenders_read : (values : Values V) (cost_to : ℕ → Option ℕ) (slot : ℕ) (members : List Member)
+      → contenders_from to.route (λ s. option_map f (values s)) cost_to slot members ≡ contenders_from from.route values cost_to slot members
+  contenders_read values cost_to slot [] = refl
+  contenders_read values cost_to slot (member ∷ members) =
+      λ i. cons_some (contender_read slot member.bgp_id (values slot) (cost_to slot) i) (contenders_read values cost_to (suc slot) members i)
 
-  other_read : (slot : ℕ) (heard : Heard V) (chosen : Option ℕ) → of_other slot (λ s. option_map f (heard s)) chosen ≡ option_map f (of_other slot heard chosen)
-  other_read slot heard None = refl
-  other_read slot heard (Some chosen) = sym (map_cond f (eqb chosen slot) None (heard chosen))
+  other_read : (slot : ℕ) (values : Values V) (chosen : Option ℕ) → of_other slot (λ s. option_map f (values s)) chosen ≡ option_map f (of_other slot values chosen)
+  other_read slot values None = refl
+  other_read slot values (Some chosen) = sym (map_cond f (eqb chosen slot) None (values chosen))
 
-  pub offer_read : (heard : Heard V) (edges : List Edge) (slot : ℕ) → offer_of to (λ s. option_map f (heard s)) edges slot ≡ option_map f (offer_of from heard edges slot)
+  pub offer_read : (values : Values V) (edges : List Edge) (slot : ℕ) → offer_of to (λ s. option_map f (values s)) edges slot ≡ option_map f (offer_of from values edges slot)
   unfolding offer_of
-  offer_read heard edges slot =
-      ap (λ members. of_other slot (λ s. option_map f (heard s)) (choice slot (slot_cost edges members slot) (contenders_from to.route (λ s. option_map f (heard s)) (slot_cost edges members slot) 0 members))) (sym reading.members)
-      ∙ ap (λ list. of_other slot (λ s. option_map f (heard s)) (choice slot (slot_cost edges from.members slot) list)) (contenders_read heard (slot_cost edges from.members slot) 0 from.members)
-      ∙ other_read slot heard (choice slot (slot_cost edges from.members slot) (contenders_from from.route heard (slot_cost edges from.members slot) 0 from.members))
+  offer_read values edges slot =
+      ap (λ members. of_other slot (λ s. option_map f (values s)) (choice slot (slot_cost edges members slot) (contenders_from to.route (λ s. option_map f (values s)) (slot_cost edges members slot) 0 members))) (sym reading.members)
+      ∙ ap (λ list. of_other slot (λ s. option_map f (values s)) (choice slot (slot_cost edges from.members slot) list)) (contenders_read values (slot_cost edges from.members slot) 0 from.members)
+      ∙ other_read slot values (choice slot (slot_cost edges from.members slot) (contenders_from from.route values (slot_cost edges from.members slot) 0 from.members))
 
   -- ---- bases
 

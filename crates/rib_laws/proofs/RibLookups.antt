@@ -11,7 +11,7 @@ use Rattle.std.proofs.lemmas.Bool.{and_parts, and_from, or_cases, or_left, or_ri
 use Rattle.rcp_base.specs.IpPrefix.{IpPrefix, prefix_cmp}
 use Rattle.rcp_model.specs.Maps.{same_prefix}
 use Rattle.rcp_model.specs.Ribs.{RibKey, rib_cmp}
-use Rattle.rcp_model.specs.ServerRibs.{Heard, Rib, with_value, without_slot, prefixes_of, with_each}
+use Rattle.rcp_model.specs.ServerRibs.{Values, Rib, with_value, without_slot, prefixes_of, with_each}
 use Rattle.rcp_model.proofs.RibLemmas.{prefix_total, rib_total, rib_exact, rib_tied}
 
 -- ---- tests
@@ -59,7 +59,7 @@ none_of : {A : Type 0} (a : Bool) (x y : A) → y ≡ cond (a && false) x y
 none_of true x y = refl
 none_of false x y = refl
 
-pub get-with_each : {V : Type 0} (p : IpPrefix) (octets : Heard V) (slots : List ℕ) (rib : Rib V) (k : RibKey)
+pub get-with_each : {V : Type 0} (p : IpPrefix) (octets : Values V) (slots : List ℕ) (rib : Rib V) (k : RibKey)
     → map_of.get (with_each p octets slots rib) k ≡ cond (same_prefix k.0 p && list_any (eq_by_cmp nat_cmp k.1) slots) (octets k.1) (map_of.get rib k)
 get-with_each p octets [] rib k = none_of (same_prefix k.0 p) (octets k.1) (map_of.get rib k)
 get-with_each p octets (slot ∷ slots) rib k =

@@ -15,7 +15,7 @@ use Rattle.rcp_model.specs.Updates.{Table}
 use Rattle.rcp_model.specs.Routes.{RouteFields, is_usable}
 use Rattle.rcp_model.specs.Decision.{Contender, contender, tied, is_of, is_nearer, is_lower_pair, nearest, choice}
 use Rattle.rcp_model.specs.Control.{Domain, Server, ServerEvent, router_at, slot_cost, contender_of, cons_some, offer, same_cost, cost_differs, announced_at, is_touched, table_of, after}
-use Rattle.rcp_model.specs.ServerRibs.{Heard, Reader, same_values, octets_reader, heard_contender, contenders_from, of_other, offer_of, RibEvent, Up, Down, Change, Links, Work, event_of, Rib, Ribs, at_prefix, with_value, without_slot, prefixes_of, cell_in, is_up, is_pending, offered, AreSettled, empty_ribs, ribs_after, ribs_of}
+use Rattle.rcp_model.specs.ServerRibs.{Values, Reader, same_values, octets_reader, value_contender, contenders_from, of_other, offer_of, RibEvent, Up, Down, Change, Links, Work, event_of, Rib, Ribs, at_prefix, with_value, without_slot, prefixes_of, cell_in, is_up, is_pending, offered, AreSettled, empty_ribs, ribs_after, ribs_of}
 use Rattle.rcp_model.proofs.MapLemmas.{same_prefix-is}
 use Rattle.rcp_model.proofs.OfferLemmas.{filter-keeps}
 use Rattle.rcp_model.proofs.RibLemmas.{prefix_total}
@@ -61,17 +61,17 @@ module _ (before now : ℕ → Option ℕ) where
   unfolding choice
   choice-alike slot list all = ap (cond (list_any (is_of slot) (tied list)) (Some slot)) (nearest-alike (tied list) (tied-alike list all))
 
-  module _ {V : Type 0} (route : V → RouteFields) (heard : Heard V) (same : (e : ℕ) → IsSome (heard e) → before e ≡ now e) where
-    contender-same : (slot id : ℕ) (found : Option V) → heard slot ≡ found → heard_contender route slot id found (before slot) ≡ heard_contender route slot id found (now slot)
+  module _ {V : Type 0} (route : V → RouteFields) (values : Values V) (same : (e : ℕ) → IsSome (values e) → before e ≡ now e) where
+    contender-same : (slot id : ℕ) (found : Option V) → values slot ≡ found → value_contender route slot id found (before slot) ≡ value_contender route slot id found (now slot)
     contender-same slot id None is = refl
     contender-same slot id (Some value) is = ap (contender_of slot id (route value)) (same slot (ap is_some is))
 
-    candidates-same : (slot : ℕ) (members : List Member) → contenders_from route heard before slot members ≡ contenders_from route heard now slot members
+    candidates-same : (slot : ℕ) (members : List Member) → contenders_from route values before slot members ≡ contenders_from route values now slot members
     candidates-same slot [] = refl
-    candidates-same slot (member ∷ members) = λ i. cons_some (contender-same slot member.bgp_id (heard slot) refl i) (candidates-same (suc slot) members i)
+    candidates-same slot (member ∷ members) = λ i. cons_some (contender-same slot member.bgp_id (values slot) refl i) (candidates-same (suc slot) members i)
 
-    with_contender : (slot id : ℕ) (found : Option V) (cost : Option ℕ) (list : List Contender) → heard slot ≡ found → AllByRecursion Alike list
-        → AllByRecursion Alike (cons_some (heard_contender route slot id found cost) list)
+    with_contender : (slot id : ℕ) (found : Option V) (cost : Option ℕ) (list : List Contender) → values slot ≡ found → AllByRecursion Alike list
+        → AllByRecursion Alike (cons_some (value_contender route slot id found cost) list)
     unfolding Alike
     with_contender slot id None cost list is all = all
     with_contender slot id (Some value) None list is all = all
@@ -80,38 +80,38 @@ module _ (before now : ℕ → Option ℕ) where
       at_test true = (same slot (ap is_some is), all)
       at_test false = all
 
-    candidates-alike : (slot : ℕ) (members : List Member) → AllByRecursion Alike (contenders_from route heard before slot members)
+    candidates-alike : (slot : ℕ) (members : List Member) → AllByRecursion Alike (contenders_from route values before slot members)
     candidates-alike slot [] = tt
-    candidates-alike slot (member ∷ members) = with_contender slot member.bgp_id (heard slot) (before slot) (contenders_from route heard before (suc slot) members) refl (candidates-alike (suc slot) members)
+    candidates-alike slot (member ∷ members) = with_contender slot member.bgp_id (values slot) (before slot) (contenders_from route values before (suc slot) members) refl (candidates-alike (suc slot) members)
 
 -- where the costs from a slot to all that announce are the same, it is offered the same
-pub offer-same_costs : {V : Type 0} (reader : Reader V) (heard : Heard V) (before now : List Edge) (slot : ℕ)
-    → ((e : ℕ) → IsSome (heard e) → slot_cost before reader.members slot e ≡ slot_cost now reader.members slot e) → offer_of reader heard before slot ≡ offer_of reader heard now slot
+pub offer-same_costs : {V : Type 0} (reader : Reader V) (values : Values V) (before now : List Edge) (slot : ℕ)
+    → ((e : ℕ) → IsSome (values e) → slot_cost before reader.members slot e ≡ slot_cost now reader.members slot e) → offer_of reader values before slot ≡ offer_of reader values now slot
 unfolding offer_of
-offer-same_costs reader heard before now slot same =
+offer-same_costs reader values before now slot same =
     let costs = slot_cost before reader.members slot in
     let others = slot_cost now reader.members slot in
-    ap (of_other slot heard)
-    (choice-alike costs others slot (contenders_from reader.route heard costs 0 reader.members) (candidates-alike costs others reader.route heard same 0 reader.members)
-    ∙ ap (choice slot others) (candidates-same costs others reader.route heard same 0 reader.members))
+    ap (of_other slot values)
+    (choice-alike costs others slot (contenders_from reader.route values costs 0 reader.members) (candidates-alike costs others reader.route values same 0 reader.members)
+    ∙ ap (choice slot others) (candidates-same costs others reader.route values same 0 reader.members))
 
 -- where nothing is announced, nothing is offered
-no_contenders : {V : Type 0} (route : V → RouteFields) (heard : Heard V) (cost_to : ℕ → Option ℕ) (slot : ℕ) (members : List Member)
-    → ((slot : ℕ) → heard slot ≡ None) → contenders_from route heard cost_to slot members ≡ []
-no_contenders route heard cost_to slot [] none = refl
-no_contenders route heard cost_to slot (member ∷ members) none =
-    (λ i. cons_some (heard_contender route slot member.bgp_id (none slot i) (cost_to slot)) (contenders_from route heard cost_to (suc slot) members))
-    ∙ no_contenders route heard cost_to (suc slot) members none
+no_contenders : {V : Type 0} (route : V → RouteFields) (values : Values V) (cost_to : ℕ → Option ℕ) (slot : ℕ) (members : List Member)
+    → ((slot : ℕ) → values slot ≡ None) → contenders_from route values cost_to slot members ≡ []
+no_contenders route values cost_to slot [] none = refl
+no_contenders route values cost_to slot (member ∷ members) none =
+    (λ i. cons_some (value_contender route slot member.bgp_id (none slot i) (cost_to slot)) (contenders_from route values cost_to (suc slot) members))
+    ∙ no_contenders route values cost_to (suc slot) members none
 
 no_choice : (slot : ℕ) (cost : ℕ → Option ℕ) → choice slot cost [] ≡ None
 unfolding choice tied
 no_choice slot cost = refl
 
-offer-nothing : {V : Type 0} (reader : Reader V) (heard : Heard V) (edges : List Edge) (slot : ℕ) → ((slot : ℕ) → heard slot ≡ None) → offer_of reader heard edges slot ≡ None
+offer-nothing : {V : Type 0} (reader : Reader V) (values : Values V) (edges : List Edge) (slot : ℕ) → ((slot : ℕ) → values slot ≡ None) → offer_of reader values edges slot ≡ None
 unfolding offer_of
-offer-nothing reader heard edges slot none =
-    ap (of_other slot heard)
-    (ap (choice slot (slot_cost edges reader.members slot)) (no_contenders reader.route heard (slot_cost edges reader.members slot) 0 reader.members none)
+offer-nothing reader values edges slot none =
+    ap (of_other slot values)
+    (ap (choice slot (slot_cost edges reader.members slot)) (no_contenders reader.route values (slot_cost edges reader.members slot) 0 reader.members none)
     ∙ no_choice slot (slot_cost edges reader.members slot))
 
 no_router : (members : List Member) (slot : ℕ) → length members ≤ slot → router_at members slot ≡ None
