@@ -11,7 +11,7 @@ use Rattle.rcp_model.specs.Maps.{get_at, same_prefix, is_among}
 use Rattle.rcp_model.specs.Messages.{IsMessage}
 use Rattle.rcp_model.specs.Updates.{Table, after_messages, replay}
 use Rattle.rcp_model.specs.LinkState.{same_number}
-use Rattle.rcp_model.specs.Control.{Server, table_of, offer}
+use Rattle.rcp_model.specs.Control.{Server, table_of, announced_at, offer}
 use Rattle.rcp_model.specs.Sessions.{SessionState, slot_in}
 use Rattle.rcp_model.specs.Telling.{AreOctets}
 use Rattle.feed_meaning.specs.Platform.{Connections, Platform, domain_of, fresh, slot_of_session, Turn, turn, after_turn, after_turns, messages_to, changed_cells, slot_cells, drained, summary, work_events, drained_server, drain_messages, drain, drain_output, noted, is_drain, record_turns, step, output, platform_after, all_output, sent_to, NumbersRise, Headline}
@@ -59,18 +59,18 @@ module _ (codec : CellUpdates) (platform : Platform) (outs : List OutRecord) (la
 
   -- what a table has afterwards leaves room for its prefix
   new_fits : (slot : ℕ) (table new : Table) (p : IpPrefix) (octets : List ℕ) → table_of platform.server slot ≡ Some table
-      → ((q : IpPrefix) → get_at same_prefix q new ≡ cond (is_among platform.server.touched q) (offer (domain_of platform.roster) platform.server.announcements platform.server.edges slot q) (get_at same_prefix q table))
+      → ((q : IpPrefix) → get_at same_prefix q new ≡ cond (is_among platform.server.touched q) (offer (domain_of platform.roster) (announced_at platform.server.announcements q) platform.server.edges slot) (get_at same_prefix q table))
       → get_at same_prefix p new ≡ Some octets → length octets ≤ 4068
   new_fits slot table new p octets had gives is =
-      let offered : offer (domain_of platform.roster) platform.server.announcements platform.server.edges slot p ≡ Some octets =
+      let offered : offer (domain_of platform.roster) (announced_at platform.server.announcements p) platform.server.edges slot ≡ Some octets =
       elim (cases_Bool (is_among platform.server.touched p)) [
         | inl e ↦ rw e at (sym (gives p) ∙ is)
         | inr e ↦ sym (h.settled.offers slot table p had e) ∙ (rw e at (sym (gives p) ∙ is))
       ] in
-      offer-fits (domain_of platform.roster) platform.server.announcements platform.server.edges slot p octets (λ e l is. h.settled.canonical.each e p l is) offered
+      offer-fits (domain_of platform.roster) (announced_at platform.server.announcements p) platform.server.edges slot octets (λ e l is. h.settled.canonical.each e p l is) offered
 
   in_form : (slot : ℕ) (table new : Table) (ps : List IpPrefix) → table_of platform.server slot ≡ Some table
-      → ((q : IpPrefix) → get_at same_prefix q new ≡ cond (is_among platform.server.touched q) (offer (domain_of platform.roster) platform.server.announcements platform.server.edges slot q) (get_at same_prefix q table))
+      → ((q : IpPrefix) → get_at same_prefix q new ≡ cond (is_among platform.server.touched q) (offer (domain_of platform.roster) (announced_at platform.server.announcements q) platform.server.edges slot) (get_at same_prefix q table))
       → AllByRecursion IsPrefix ps → AllByRecursion (FitsAt (Some new)) ps
   in_form slot table new [] had gives forms = tt
   in_form slot table new (p ∷ ps) had gives forms =
@@ -78,7 +78,7 @@ module _ (codec : CellUpdates) (platform : Platform) (outs : List OutRecord) (la
 
   -- the octets so far and the UPDATEs of the changed cells replay to the new table
   replays_on : (octets : List ℕ) (slot : ℕ) (table new : Table) → Replays octets table → table_of platform.server slot ≡ Some table
-      → ((q : IpPrefix) → get_at same_prefix q new ≡ cond (is_among platform.server.touched q) (offer (domain_of platform.roster) platform.server.announcements platform.server.edges slot q) (get_at same_prefix q table))
+      → ((q : IpPrefix) → get_at same_prefix q new ≡ cond (is_among platform.server.touched q) (offer (domain_of platform.roster) (announced_at platform.server.announcements q) platform.server.edges slot) (get_at same_prefix q table))
       → Replays (octets ++ concat (changed_cells platform.server.touched (Some table) (Some new))) new
   replays_on octets slot table new before had gives =
       let forms = in_form slot table new platform.server.touched had gives h.settled.touched in
@@ -207,13 +207,13 @@ headline-holds codec roster items small rises number slot p on untouched =
 
       -- the table of a connected slot is what it was told
       by_table : Tells (sent_to number (all_output (fresh roster) items)) platform.server (Some slot)
-          → get_at same_prefix p (replay (sent_to number (all_output (fresh roster) items))) ≡ offer (domain_of roster) platform.server.announcements platform.server.edges slot p
+          → get_at same_prefix p (replay (sent_to number (all_output (fresh roster) items))) ≡ offer (domain_of roster) (announced_at platform.server.announcements p) platform.server.edges slot
       by_table tells =
           Replays-replay codec (sent_to number (all_output (fresh roster) items)) tells.0 p tells.2
           ∙ kept.settled.offers slot tells.0 p tells.1 untouched
-          ∙ ap (λ (r : RosterOf). offer (domain_of r) platform.server.announcements platform.server.edges slot p) (run-roster (fresh roster) items)
+          ∙ ap (λ (r : RosterOf). offer (domain_of r) (announced_at platform.server.announcements p) platform.server.edges slot) (run-roster (fresh roster) items)
 
       by_session : (found : Option SessionState) → get_at same_number number platform.connections ≡ found → slot_of_session found ≡ Some slot
-          → get_at same_prefix p (replay (sent_to number (all_output (fresh roster) items))) ≡ offer (domain_of roster) platform.server.announcements platform.server.edges slot p
+          → get_at same_prefix p (replay (sent_to number (all_output (fresh roster) items))) ≡ offer (domain_of roster) (announced_at platform.server.announcements p) platform.server.edges slot
       by_session None is here = absurd cc
       by_session (Some s) is here = by_table (subst (Tells (sent_to number (all_output (fresh roster) items)) platform.server) here (kept.told number s is))

@@ -7,7 +7,7 @@ use Rattle.rcp_base.specs.IpPrefix.{IpPrefix, IsPrefix}
 use Rattle.rcp_model.specs.Maps.{get_at, set_at, same_prefix, is_among}
 use Rattle.rcp_model.specs.Messages.{IsMessage, messages_in}
 use Rattle.rcp_model.specs.Updates.{Table, after_message, after_messages, replay}
-use Rattle.rcp_model.specs.Control.{Domain, Server, Work, same_octets, table_of, offer, after, after_all}
+use Rattle.rcp_model.specs.Control.{Domain, Server, Work, same_octets, table_of, announced_at, offer, after, after_all}
 use Rattle.feed_meaning.specs.Platform.{cell_update, cell_of, changed_cells, work_events}
 use Rattle.rcp_model.proofs.MapLemmas.{get_at-set_at_same, get_at-set_at_other, same_prefix-is, same_prefix-other, prefix_test}
 use Rattle.rcp_model.proofs.ServerLemmas.{worked-table}
@@ -101,7 +101,7 @@ pub record Worked (domain : Domain) (ps : List IpPrefix) (server now : Server) :
   pub announcements : now.announcements ≡ server.announcements
   pub edges : now.edges ≡ server.edges
   pub tables : (slot : ℕ) (table : Table) → table_of server slot ≡ Some table
-      → (new : Table) × (table_of now slot ≡ Some new) × ((q : IpPrefix) → get_at same_prefix q new ≡ cond (is_among ps q) (offer domain server.announcements server.edges slot q) (get_at same_prefix q table))
+      → (new : Table) × (table_of now slot ≡ Some new) × ((q : IpPrefix) → get_at same_prefix q new ≡ cond (is_among ps q) (offer domain (announced_at server.announcements q) server.edges slot) (get_at same_prefix q table))
 
 either_way : (b : Bool) (x y : Option (List ℕ)) → x ≡ cond (b || true) x y
 either_way true x y = refl
@@ -117,18 +117,18 @@ worked-all domain (p ∷ ps) server =
       announcements = rest.announcements;
       edges = rest.edges;
       tables = λ slot table is.
-          let given = set_at same_prefix p (offer domain server.announcements server.edges slot p) table in
+          let given = set_at same_prefix p (offer domain (announced_at server.announcements p) server.edges slot) table in
           let more = rest.tables slot given (worked-table domain server.announcements server.edges p slot server.tables table is) in (
             more.0,
             more.1,
             λ q. more.2 q ∙
                 elim (cases_Bool (is_among ps q)) [
-                  | inl e ↦ rw e (either_way (same_prefix q p) (offer domain server.announcements server.edges slot q) (get_at same_prefix q table))
+                  | inl e ↦ rw e (either_way (same_prefix q p) (offer domain (announced_at server.announcements q) server.edges slot) (get_at same_prefix q table))
                   | inr e ↦ rw e (
                       elim (cases_Bool (same_prefix q p)) [
                         | inl s ↦ let k : q ≡ p = same_prefix-is q p s in
-                            rw (s, k) (get_at-set_at_same same_prefix prefix_test p (offer domain server.announcements server.edges slot p) table)
-                        | inr s ↦ rw s (get_at-set_at_other same_prefix prefix_test p q (offer domain server.announcements server.edges slot p) table s (same_prefix-other q p s))
+                            rw (s, k) (get_at-set_at_same same_prefix prefix_test p (offer domain (announced_at server.announcements p) server.edges slot) table)
+                        | inr s ↦ rw s (get_at-set_at_other same_prefix prefix_test p q (offer domain (announced_at server.announcements p) server.edges slot) table s (same_prefix-other q p s))
                       ])
                 ],
           );

@@ -14,7 +14,7 @@ use Rattle.rcp_model.specs.Updates.{Table, update_octets, replay}
 use Rattle.rcp_model.specs.Edges.{rising_edges}
 use Rattle.rcp_model.specs.Sessions.{Reason, Faulted, Received, Ended, SeatTaken, Ending, SessionEvent, Announce, Withdraw, Doing, Phase, SessionState, seat_of, slot_in, Answer, Input, Octets, Seat, Moment, End, answer, begun, begun_established, is_closed, seat_taken, stepped, then_also}
 use Rattle.rcp_model.specs.Sessions as session
-use Rattle.rcp_model.specs.Control.{Domain, Server, ServerEvent, Up, Down, Change, Work, after_all, table_of, announced_prefixes, same_octets, is_touched, offer}
+use Rattle.rcp_model.specs.Control.{Domain, Server, ServerEvent, Up, Down, Change, Work, after_all, table_of, announced_prefixes, same_octets, is_touched, announced_at, offer}
 
 -- ---- the state
 
@@ -286,4 +286,4 @@ Headline roster items =
     (number slot : ℕ) (p : IpPrefix) → slot_on platform.connections number ≡ Some slot
     → is_touched platform.server p ≡ false
     → cell_of (Some (replay (sent_to number outs))) p
-    ≡ offer (domain_of roster) platform.server.announcements platform.server.edges slot p
+    ≡ offer (domain_of roster) (announced_at platform.server.announcements p) platform.server.edges slot

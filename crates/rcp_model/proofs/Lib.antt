@@ -8,6 +8,7 @@ pub mod AttributeLemmas
 pub mod CanonicalLemmas
 pub mod RouteLemmas
 pub mod MapLemmas
+pub mod RibLemmas
 pub mod OfferLemmas
 pub mod ServerLemmas
 pub mod AllLemmas

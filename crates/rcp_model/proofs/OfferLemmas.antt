@@ -1,58 +1,33 @@
--- What an offer depends on, and that it leaves room for its prefix in an UPDATE.
+-- What is offered where nothing is announced, and that an offer leaves room for its prefix in an UPDATE.
 use Rattle.std.proofs.Common.{◌≡◌, ℕ, suc, ◌≤◌, Bool, true, false, eqb, List, [], ◌∷◌, length, Option, Some, None, refl, sym, subst, ◌∙◌, inl, inr}
 use Rattle.std.specs.Prelude.{filter}
 use Rattle.std.specs.List.{list_any, AllByRecursion}
 use Rattle.std.specs.Int.{w16}
 use Rattle.std.proofs.lemmas.Bool.{cases_Bool, and_parts, or_cases, eqb-true, not-true, ltb-false}
-use Rattle.rcp_base.specs.IpPrefix.{IpPrefix}
 use Rattle.rcp_base.specs.declared.names.Member.{Member}
 use Rattle.rcp_model.specs.declared.event.Edge.{Edge}
 use Rattle.rcp_model.specs.Attributes.{canonical_octets, attributes_in}
 use Rattle.rcp_model.specs.Routes.{route_of, route_in, is_usable, is_long}
 use Rattle.rcp_model.specs.Decision.{Contender, tied, is_of, is_nearer, nearest, choice}
-use Rattle.rcp_model.specs.Control.{Domain, Announcements, announced_by, announcement_contender, cons_some, candidates_from, candidates, slot_cost, choice_of, unless_own, offer}
-
--- ---- an offer depends on the announcements of its prefix alone
-
-candidates_from-same : (domain : Domain) (a b : Announcements) (p : IpPrefix) (cost_to : ℕ → Option ℕ) (slot : ℕ) (members : List Member)
-    → ((slot : ℕ) → announced_by a slot p ≡ announced_by b slot p)
-    → candidates_from domain a p cost_to slot members ≡ candidates_from domain b p cost_to slot members
-candidates_from-same domain a b p cost_to slot [] h = refl
-candidates_from-same domain a b p cost_to slot (member ∷ members) h =
-    rw (h slot, candidates_from-same domain a b p cost_to (suc slot) members h) refl
-
-candidates-same : (domain : Domain) (a b : Announcements) (edges : List Edge) (slot : ℕ) (p : IpPrefix)
-    → ((slot : ℕ) → announced_by a slot p ≡ announced_by b slot p) → candidates domain a edges slot p ≡ candidates domain b edges slot p
-unfolding candidates
-candidates-same domain a b edges slot p h = candidates_from-same domain a b p (slot_cost edges domain.members slot) 0 domain.members h
-
-unless_own-same : (slot : ℕ) (f g : ℕ → Option (List ℕ)) (chosen : Option ℕ) → ((e : ℕ) → f e ≡ g e) → unless_own slot f chosen ≡ unless_own slot g chosen
-unless_own-same slot f g None h = refl
-unless_own-same slot f g (Some e) h = rw (h e) refl
-
-pub offer-same : (domain : Domain) (a b : Announcements) (edges : List Edge) (slot : ℕ) (p : IpPrefix)
-    → ((slot : ℕ) → announced_by a slot p ≡ announced_by b slot p) → offer domain a edges slot p ≡ offer domain b edges slot p
-unfolding offer choice_of
-offer-same domain a b edges slot p h =
-    rw (candidates-same domain a b edges slot p h) (unless_own-same slot (λ e. announced_by a e p) (λ e. announced_by b e p) (choice slot (slot_cost edges domain.members slot) (candidates domain b edges slot p)) h)
+use Rattle.rcp_model.specs.Control.{Domain, Announced, announcement_contender, cons_some, candidates_from, candidates, slot_cost, choice_of, unless_own, offer}
 
 -- ---- where nothing is announced, nothing is offered
 
-candidates_from-none : (domain : Domain) (a : Announcements) (p : IpPrefix) (cost_to : ℕ → Option ℕ) (slot : ℕ) (members : List Member)
-    → ((slot : ℕ) → announced_by a slot p ≡ None) → candidates_from domain a p cost_to slot members ≡ []
-candidates_from-none domain a p cost_to slot [] h = refl
-candidates_from-none domain a p cost_to slot (member ∷ members) h =
-    rw (h slot) (candidates_from-none domain a p cost_to (suc slot) members h)
+candidates_from-none : (domain : Domain) (announced : Announced) (cost_to : ℕ → Option ℕ) (slot : ℕ) (members : List Member)
+    → ((slot : ℕ) → announced slot ≡ None) → candidates_from domain announced cost_to slot members ≡ []
+candidates_from-none domain announced cost_to slot [] h = refl
+candidates_from-none domain announced cost_to slot (member ∷ members) h =
+    rw (h slot) (candidates_from-none domain announced cost_to (suc slot) members h)
 
 choice-none : (slot : ℕ) (cost : ℕ → Option ℕ) → choice slot cost [] ≡ None
 unfolding choice tied
 choice-none slot cost = refl
 
-pub offer-none : (domain : Domain) (a : Announcements) (edges : List Edge) (slot : ℕ) (p : IpPrefix)
-    → ((slot : ℕ) → announced_by a slot p ≡ None) → offer domain a edges slot p ≡ None
+pub offer-none : (domain : Domain) (announced : Announced) (edges : List Edge) (slot : ℕ)
+    → ((slot : ℕ) → announced slot ≡ None) → offer domain announced edges slot ≡ None
 unfolding offer choice_of candidates
-offer-none domain a edges slot p h =
-    rw (candidates_from-none domain a p (slot_cost edges domain.members slot) 0 domain.members h, choice-none slot (slot_cost edges domain.members slot)) refl
+offer-none domain announced edges slot h =
+    rw (candidates_from-none domain announced (slot_cost edges domain.members slot) 0 domain.members h, choice-none slot (slot_cost edges domain.members slot)) refl
 
 -- ---- what holds of each candidate's slot holds of the choice
 
@@ -101,8 +76,8 @@ choice-keeps Q slot cost list e h is =
 
 -- ---- an offer leaves room for its prefix
 
-abbrev Fits : Announcements → IpPrefix → ℕ → Type 0
-Fits a p slot = (octets : List ℕ) → announced_by a slot p ≡ Some octets → length octets ≤ 4068
+abbrev Fits : Announced → ℕ → Type 0
+Fits announced slot = (octets : List ℕ) → announced slot ≡ Some octets → length octets ≤ 4068
 
 usable-fits : (as_number : ℕ) (octets : List ℕ) → canonical_octets (attributes_in octets) ≡ octets → is_usable (route_in w16 as_number octets) ≡ true → length octets ≤ 4068
 unfolding route_of
@@ -112,14 +87,14 @@ usable-fits as_number octets canonical_is usable =
     let fits : length (canonical_octets (attributes_in octets)) ≤ 4068 = ltb-false _ _ short in
     subst (λ (l : List ℕ). length l ≤ 4068) canonical_is fits
 
-contender-fits : (domain : Domain) (a : Announcements) (p : IpPrefix) (slot id : ℕ) (found : Option (List ℕ)) (cost_to : Option ℕ) (list : List Contender)
-    → announced_by a slot p ≡ found
-    → ((octets : List ℕ) → announced_by a slot p ≡ Some octets → canonical_octets (attributes_in octets) ≡ octets)
-    → AllByRecursion (λ c. Fits a p c.slot) list
-    → AllByRecursion (λ c. Fits a p c.slot) (cons_some (announcement_contender domain slot id found cost_to) list)
-contender-fits domain a p slot id None cost_to list is canonical_is h = h
-contender-fits domain a p slot id (Some octets) None list is canonical_is h = h
-contender-fits domain a p slot id (Some octets) (Some reached) list is canonical_is h =
+contender-fits : (domain : Domain) (announced : Announced) (slot id : ℕ) (found : Option (List ℕ)) (cost_to : Option ℕ) (list : List Contender)
+    → announced slot ≡ found
+    → ((octets : List ℕ) → announced slot ≡ Some octets → canonical_octets (attributes_in octets) ≡ octets)
+    → AllByRecursion (λ c. Fits announced c.slot) list
+    → AllByRecursion (λ c. Fits announced c.slot) (cons_some (announcement_contender domain slot id found cost_to) list)
+contender-fits domain announced slot id None cost_to list is canonical_is h = h
+contender-fits domain announced slot id (Some octets) None list is canonical_is h = h
+contender-fits domain announced slot id (Some octets) (Some reached) list is canonical_is h =
     elim (cases_Bool (is_usable (route_in w16 domain.as_number octets))) [
       | inl u ↦ rw u (
         (λ other other_is.
@@ -131,13 +106,13 @@ contender-fits domain a p slot id (Some octets) (Some reached) list is canonical
       | inr u ↦ rw u h
     ]
 
-candidates_from-fit : (domain : Domain) (a : Announcements) (p : IpPrefix) (cost_to : ℕ → Option ℕ) (slot : ℕ) (members : List Member)
-    → ((slot : ℕ) (octets : List ℕ) → announced_by a slot p ≡ Some octets → canonical_octets (attributes_in octets) ≡ octets)
-    → AllByRecursion (λ c. Fits a p c.slot) (candidates_from domain a p cost_to slot members)
-candidates_from-fit domain a p cost_to slot [] canonical_is = tt
-candidates_from-fit domain a p cost_to slot (member ∷ members) canonical_is =
-    contender-fits domain a p slot member.bgp_id (announced_by a slot p) (cost_to slot) _ refl (canonical_is slot)
-    (candidates_from-fit domain a p cost_to (suc slot) members canonical_is)
+candidates_from-fit : (domain : Domain) (announced : Announced) (cost_to : ℕ → Option ℕ) (slot : ℕ) (members : List Member)
+    → ((slot : ℕ) (octets : List ℕ) → announced slot ≡ Some octets → canonical_octets (attributes_in octets) ≡ octets)
+    → AllByRecursion (λ c. Fits announced c.slot) (candidates_from domain announced cost_to slot members)
+candidates_from-fit domain announced cost_to slot [] canonical_is = tt
+candidates_from-fit domain announced cost_to slot (member ∷ members) canonical_is =
+    contender-fits domain announced slot member.bgp_id (announced slot) (cost_to slot) _ refl (canonical_is slot)
+    (candidates_from-fit domain announced cost_to (suc slot) members canonical_is)
 
 unless_own-some : (slot : ℕ) (f : ℕ → Option (List ℕ)) (chosen : Option ℕ) (octets : List ℕ) → unless_own slot f chosen ≡ Some octets → (e : ℕ) × (chosen ≡ Some e) × (f e ≡ Some octets)
 unless_own-some slot f None octets is = absurd cc
@@ -147,12 +122,12 @@ unless_own-some slot f (Some e) octets is =
       | inr t ↦ (e, refl, rw t at is)
     ]
 
-pub offer-fits : (domain : Domain) (a : Announcements) (edges : List Edge) (slot : ℕ) (p : IpPrefix) (octets : List ℕ)
-    → ((slot : ℕ) (octets : List ℕ) → announced_by a slot p ≡ Some octets → canonical_octets (attributes_in octets) ≡ octets)
-    → offer domain a edges slot p ≡ Some octets → length octets ≤ 4068
+pub offer-fits : (domain : Domain) (announced : Announced) (edges : List Edge) (slot : ℕ) (octets : List ℕ)
+    → ((slot : ℕ) (octets : List ℕ) → announced slot ≡ Some octets → canonical_octets (attributes_in octets) ≡ octets)
+    → offer domain announced edges slot ≡ Some octets → length octets ≤ 4068
 unfolding offer choice_of candidates
-offer-fits domain a edges slot p octets canonical_is is =
+offer-fits domain announced edges slot octets canonical_is is =
     let costs = slot_cost edges domain.members slot in
-    let list = candidates_from domain a p costs 0 domain.members in
-    let chosen = unless_own-some slot (λ e. announced_by a e p) (choice slot costs list) octets is in
-    choice-keeps (Fits a p) slot costs list chosen.0 (candidates_from-fit domain a p costs 0 domain.members canonical_is) chosen.1 octets chosen.2
+    let list = candidates_from domain announced costs 0 domain.members in
+    let chosen = unless_own-some slot announced (choice slot costs list) octets is in
+    choice-keeps (Fits announced) slot costs list chosen.0 (candidates_from-fit domain announced costs 0 domain.members canonical_is) chosen.1 octets chosen.2

@@ -9,9 +9,9 @@ use Rattle.rcp_model.specs.Maps.{get_at, put_at, set_at, same_prefix, is_before,
 use Rattle.rcp_model.specs.Attributes.{canonical_octets, attributes_in}
 use Rattle.rcp_model.specs.Updates.{Table}
 use Rattle.rcp_model.specs.LinkState.{same_number}
-use Rattle.rcp_model.specs.Control.{Domain, Place, Announcements, Server, Up, Down, Change, Work, same_place, announced_by, announced_prefixes, of_slot, same_octets, table_of, is_connected, is_touched, offer, worked, after}
+use Rattle.rcp_model.specs.Control.{Domain, Place, Announcements, Server, Up, Down, Change, Work, same_place, announced_by, announced_at, announced_prefixes, of_slot, same_octets, table_of, is_connected, is_touched, offer, worked, after}
 use Rattle.rcp_model.proofs.MapLemmas.{IsKeyTest, get_at-put_at_same, get_at-put_at_other, get_at-without_passed, get_at-without_left, get_at-set_at_same, get_at-set_at_other, same_prefix-is, same_prefix-itself, same_prefix-other, prefix_test, is_among-include, is_among-include_all}
-use Rattle.rcp_model.proofs.OfferLemmas.{offer-same, offer-none, filter-keeps}
+use Rattle.rcp_model.proofs.OfferLemmas.{offer-none, filter-keeps}
 
 -- ---- the tests of keys
 
@@ -68,7 +68,7 @@ pub record AreCanonical (a : Announcements) : Type 0 where
 
 pub record Settled (domain : Domain) (server : Server) : Type 0 where
   pub offers : (slot : ℕ) (table : Table) (p : IpPrefix) → table_of server slot ≡ Some table → is_touched server p ≡ false
-      → get_at same_prefix p table ≡ offer domain server.announcements server.edges slot p
+      → get_at same_prefix p table ≡ offer domain (announced_at server.announcements p) server.edges slot
   pub canonical : AreCanonical server.announcements
   pub touched : AllByRecursion IsPrefix server.touched
   pub announced : AllByRecursion IsPrefix (announced_prefixes server.announcements)
@@ -127,7 +127,7 @@ settled-up domain slot server h = record {
             let s_is : s ≡ slot = eqb-true s slot e in
             let given : Some [] ≡ Some table = sym (get_at-put_at_same same_number number_test slot [] server.tables) ∙ ap (λ (k : ℕ). get_at same_number k (put_at same_number slot [] server.tables)) (sym s_is) ∙ is in
             let empty : table ≡ [] = empty_table table given in
-            rw empty (sym (offer-none domain server.announcements server.edges s p (λ e. unannounced server.announcements e p parts.0)))
+            rw empty (sym (offer-none domain (announced_at server.announcements p) server.edges s (λ e. unannounced server.announcements e p parts.0)))
         | inr e ↦
             h.offers s table p (sym (get_at-put_at_other same_number number_test slot s [] server.tables e) ∙ is) parts.1
       ];
@@ -205,8 +205,8 @@ settled-down domain slot server h = record {
             absurd (none_some table (sym (get_at-without_passed same_number number_test (same_number slot) s server.tables own) ∙ is))
         | inr other ↦
             h.offers s table p (sym (get_at-without_left same_number number_test (same_number slot) s server.tables other) ∙ is) parts.1
-            ∙ offer-same domain server.announcements (left server.announcements slot) server.edges s p
-            (λ e. left-same server.announcements slot e p (unannounced_own server.announcements slot p parts.0))
+            ∙ ap (λ announced. offer domain announced server.edges s)
+            (λ i e. left-same server.announcements slot e p (unannounced_own server.announcements slot p parts.0) i)
       ];
   canonical = left-canonical server.announcements slot h.canonical;
   touched = include_all-form (announced_prefixes (of_slot slot server.announcements)) server.touched (kept-form (λ entry. eqb entry.0.0 slot) server.announcements h.announced) h.touched;
@@ -245,8 +245,8 @@ settled-changed domain slot p octets server form good h = record {
   offers = λ s table q is untouched.
       let parts = or_parts (same_prefix q p) (is_among server.touched q) (sym (is_among-include p q server.touched) ∙ untouched) in
       h.offers s table q is parts.1
-      ∙ offer-same domain server.announcements (set_at same_place (slot, p) octets server.announcements) server.edges s q
-      (λ e. sym (announced-other server.announcements slot e p q octets (same_prefix-other q p parts.0)));
+      ∙ ap (λ announced. offer domain announced server.edges s)
+      (λ i e. sym (announced-other server.announcements slot e p q octets (same_prefix-other q p parts.0)) i);
   canonical = canonical-set server.announcements slot p octets h.canonical good;
   touched = include-form p server.touched form h.touched;
   announced = set_at-form (slot, p) octets server.announcements form h.announced;
@@ -285,7 +285,7 @@ not_among-filter p q (r ∷ ps) h =
 
 -- the table of a slot after work on a prefix
 pub worked-table : (domain : Domain) (a : Announcements) (edges : List Edge) (p : IpPrefix) (slot : ℕ) (tables : List (ℕ × Table)) (table : Table)
-    → get_at same_number slot tables ≡ Some table → get_at same_number slot (worked domain a edges p tables) ≡ Some (set_at same_prefix p (offer domain a edges slot p) table)
+    → get_at same_number slot tables ≡ Some table → get_at same_number slot (worked domain a edges p tables) ≡ Some (set_at same_prefix p (offer domain (announced_at a p) edges slot) table)
 worked-table domain a edges p slot [] table is = absurd cc
 worked-table domain a edges p slot (entry ∷ tables) table is =
     elim (cases_Bool (eqb slot entry.0)) [
@@ -309,13 +309,13 @@ worked-none domain a edges p slot (entry ∷ tables) is =
 -- the table that a slot had before a prefix was worked
 worked-from : (domain : Domain) (a : Announcements) (edges : List Edge) (p : IpPrefix) (slot : ℕ) (tables : List (ℕ × Table)) (table : Table)
     → get_at same_number slot (worked domain a edges p tables) ≡ Some table
-    → (old : Table) × (get_at same_number slot tables ≡ Some old) × (table ≡ set_at same_prefix p (offer domain a edges slot p) old)
+    → (old : Table) × (get_at same_number slot tables ≡ Some old) × (table ≡ set_at same_prefix p (offer domain (announced_at a p) edges slot) old)
 worked-from domain a edges p slot tables table is = by_cases (get_at same_number slot tables) refl where
   by_cases : (found : Option Table) → get_at same_number slot tables ≡ found
-      → (old : Table) × (get_at same_number slot tables ≡ Some old) × (table ≡ set_at same_prefix p (offer domain a edges slot p) old)
+      → (old : Table) × (get_at same_number slot tables ≡ Some old) × (table ≡ set_at same_prefix p (offer domain (announced_at a p) edges slot) old)
   by_cases None found = let no : None ≡ Some table = sym (worked-none domain a edges p slot tables found) ∙ is in absurd cc
   by_cases (Some old) found =
-      let same : Some (set_at same_prefix p (offer domain a edges slot p) old) ≡ Some table = sym (worked-table domain a edges p slot tables old found) ∙ is in
+      let same : Some (set_at same_prefix p (offer domain (announced_at a p) edges slot) old) ≡ Some table = sym (worked-table domain a edges p slot tables old found) ∙ is in
       (old, found, cc)
 
 pub settled-work : (domain : Domain) (p : IpPrefix) (server : Server) → Settled domain server → Settled domain (after domain (Work p) server)
@@ -326,10 +326,10 @@ settled-work domain p server h = record {
       rw before.2 (
       elim (cases_Bool (same_prefix p q)) [
         | inl e ↦ let k : p ≡ q = same_prefix-is p q e in
-            rw (← k) (get_at-set_at_same same_prefix prefix_test p (offer domain server.announcements server.edges s p) before.0)
+            rw (← k) (get_at-set_at_same same_prefix prefix_test p (offer domain (announced_at server.announcements p) server.edges s) before.0)
         | inr e ↦
             let quiet : is_among server.touched q ≡ false = elim (not_among-filter p q server.touched untouched) [ inl t ↦ absurd (both_ways (same_prefix p q) e t) | inr n ↦ n ] in
-            get_at-set_at_other same_prefix prefix_test p q (offer domain server.announcements server.edges s p) before.0 (same_prefix-other p q e) e ∙ h.offers s before.0 q before.1 quiet
+            get_at-set_at_other same_prefix prefix_test p q (offer domain (announced_at server.announcements p) server.edges s) before.0 (same_prefix-other p q e) e ∙ h.offers s before.0 q before.1 quiet
       ]);
   canonical = h.canonical;
   touched = filter-keeps IsPrefix (λ q. not (same_prefix p q)) server.touched h.touched;

@@ -30,6 +30,13 @@ Announcements = List (Place × List ℕ)
 abbrev pub announced_by : Announcements → ℕ → IpPrefix → Option (List ℕ)
 announced_by announcements slot p = get_at same_place (slot, p) announcements
 
+-- who announces what at a prefix: the attribute octets by slot
+abbrev pub Announced : Type 0
+Announced = ℕ → Option (List ℕ)
+
+abbrev pub announced_at : Announcements → IpPrefix → Announced
+announced_at announcements p = λ slot. announced_by announcements slot p
+
 -- the prefixes that are announced, or those that a slot announces
 abbrev pub announced_prefixes : Announcements → List IpPrefix
 announced_prefixes announcements = map (λ entry. entry.0.1) announcements
@@ -92,41 +99,41 @@ abbrev pub cons_some : Option Contender → List Contender → List Contender
 cons_some None list = list
 cons_some (Some a) list = a ∷ list
 
--- The candidates among these members, of which the first has this slot: those with a usable announcement of the prefix and a cost from the router.
-abbrev pub candidates_from : Domain → Announcements → IpPrefix → (ℕ → Option ℕ) → ℕ → List Member → List Contender
-candidates_from domain announcements p cost_to slot [] = []
-candidates_from domain announcements p cost_to slot (member ∷ members) =
-    cons_some (announcement_contender domain slot member.bgp_id (announced_by announcements slot p) (cost_to slot))
-    (candidates_from domain announcements p cost_to (suc slot) members)
+-- The candidates among these members, of which the first has this slot: those with a usable announcement and a cost from the router.
+abbrev pub candidates_from : Domain → Announced → (ℕ → Option ℕ) → ℕ → List Member → List Contender
+candidates_from domain announced cost_to slot [] = []
+candidates_from domain announced cost_to slot (member ∷ members) =
+    cons_some (announcement_contender domain slot member.bgp_id (announced slot) (cost_to slot))
+    (candidates_from domain announced cost_to (suc slot) members)
 
--- the candidates of a slot at a prefix, in roster order
-unfoldable pub candidates : Domain → Announcements → List Edge → ℕ → IpPrefix → List Contender
-candidates domain announcements edges slot p =
-    candidates_from domain announcements p (slot_cost edges domain.members slot) 0 domain.members
+-- the candidates of a slot among the announcements of a prefix, in roster order
+unfoldable pub candidates : Domain → Announced → List Edge → ℕ → List Contender
+candidates domain announced edges slot =
+    candidates_from domain announced (slot_cost edges domain.members slot) 0 domain.members
 
--- a contender that is a candidate: a member with a usable announcement of the prefix and a cost from the router
-pub record IsCandidate (domain : Domain) (announcements : Announcements) (edges : List Edge) (slot : ℕ) (p : IpPrefix) (a : Contender) : Type 0 where
+-- a contender that is a candidate: a member with a usable announcement and a cost from the router
+pub record IsCandidate (domain : Domain) (announced : Announced) (edges : List Edge) (slot : ℕ) (a : Contender) : Type 0 where
   pub member : Member
   pub seat : slice_get domain.members a.slot ≡ Some member
   pub octets : List ℕ
-  pub announced : announced_by announcements a.slot p ≡ Some octets
+  pub is_announced : announced a.slot ≡ Some octets
   pub usable : is_usable (route_in w16 domain.as_number octets) ≡ true
   pub reached : IsSome (slot_cost edges domain.members slot a.slot)
   pub compared : a ≡ contender a.slot member.bgp_id (route_in w16 domain.as_number octets)
 
-unfoldable pub choice_of : Domain → Announcements → List Edge → ℕ → IpPrefix → Option ℕ
-choice_of domain announcements edges slot p =
-    choice slot (slot_cost edges domain.members slot) (candidates domain announcements edges slot p)
+-- the slot whose announcement a slot chooses
+unfoldable pub choice_of : Domain → Announced → List Edge → ℕ → Option ℕ
+choice_of domain announced edges slot =
+    choice slot (slot_cost edges domain.members slot) (candidates domain announced edges slot)
 
 -- the attribute octets of the choice, where it is another slot
-abbrev pub unless_own : ℕ → (ℕ → Option (List ℕ)) → Option ℕ → Option (List ℕ)
+abbrev pub unless_own : ℕ → Announced → Option ℕ → Option (List ℕ)
 unless_own slot octets None = None
 unless_own slot octets (Some chosen) = if chosen == slot then None else octets chosen
 
--- what a slot is offered at a prefix
-unfoldable pub offer : Domain → Announcements → List Edge → ℕ → IpPrefix → Option (List ℕ)
-offer domain announcements edges slot p =
-    unless_own slot (λ chosen. announced_by announcements chosen p) (choice_of domain announcements edges slot p)
+-- what a slot is offered at a prefix, of which these are the announcements
+unfoldable pub offer : Domain → Announced → List Edge → ℕ → Option (List ℕ)
+offer domain announced edges slot = unless_own slot announced (choice_of domain announced edges slot)
 
 -- ---- events: what each does to the tables, the announcements, the touched prefixes and the edges
 
@@ -157,7 +164,7 @@ moved domain before after announcements =
 -- each connected slot is given what it is offered at the prefix
 abbrev pub worked : Domain → Announcements → List Edge → IpPrefix → List (ℕ × Table) → List (ℕ × Table)
 worked domain announcements edges p tables =
-    map (λ entry. (entry.0, set_at same_prefix p (offer domain announcements edges entry.0 p) entry.1)) tables
+    map (λ entry. (entry.0, set_at same_prefix p (offer domain (announced_at announcements p) edges entry.0) entry.1)) tables
 
 unfoldable pub after : Domain → ServerEvent → Server → Server
 after domain (Up slot) server = record server {

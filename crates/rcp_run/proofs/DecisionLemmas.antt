@@ -11,7 +11,7 @@ use Rattle.rcp_model.specs.declared.event.Edge.{Edge}
 use Rattle.rcp_model.specs.Attributes.{canonical_octets, attributes_in}
 use Rattle.rcp_model.specs.Routes.{RouteFields, is_usable}
 use Rattle.rcp_model.specs.Decision.{Contender, contender, unbeaten, has_higher_preference, has_shorter_path, has_lower_origin, has_lower_exit, tied, is_of, is_nearer, nearest, choice}
-use Rattle.rcp_model.specs.Control.{Domain, Announcements, announced_by, announcement_contender, cons_some, candidates_from, candidates, router_at, slot_cost, choice_of, unless_own, offer}
+use Rattle.rcp_model.specs.Control.{Domain, Announcements, announced_by, announced_at, announcement_contender, cons_some, candidates_from, candidates, router_at, slot_cost, choice_of, unless_own, offer}
 use Rattle.rcp_model.proofs.FilterLemmas.{front, nearer_of, nearest-front, front-push}
 use Rattle.rcp_model.proofs.OfferLemmas.{offer-fits}
 use Rattle.rcp_run.specs.declared.announcements.Announcement.{Announcement}
@@ -45,30 +45,30 @@ router-at (m ∷ members) zero d within = refl
 router-at (m ∷ members) (suc slot) d within = router-at members slot d (omega arith)
 
 module _ (domain : Domain) (a : Announcements) (p : IpPrefix) (reached : List Reached) (members : List Member) (place : ℕ) (m : Member) (within : place < length members) (is : m ≡ get_or members place m) where
-  rest : candidates_from domain a p (costs_in members reached) place (drop place members)
-      ≡ cons_some (announcement_contender domain place m.bgp_id (announced_by a place p) (cost_in reached m.router)) (candidates_from domain a p (costs_in members reached) (suc place) (drop (suc place) members))
+  rest : candidates_from domain (announced_at a p) (costs_in members reached) place (drop place members)
+      ≡ cons_some (announcement_contender domain place m.bgp_id (announced_by a place p) (cost_in reached m.router)) (candidates_from domain (announced_at a p) (costs_in members reached) (suc place) (drop (suc place) members))
   rest =
       let cost_is : costs_in members reached place ≡ cost_in reached m.router = ap (cost_to reached) (router-at members place m within) ∙ ap (λ (x : Member). cost_in reached x.router) (sym is) in
-      ap (candidates_from domain a p (costs_in members reached) place) (drop-cons members place m within)
-      ∙ ap (λ (x : Member). cons_some (announcement_contender domain place x.bgp_id (announced_by a place p) (costs_in members reached place)) (candidates_from domain a p (costs_in members reached) (suc place) (drop (suc place) members))) (sym is)
-      ∙ ap (λ (n : Option ℕ). cons_some (announcement_contender domain place m.bgp_id (announced_by a place p) n) (candidates_from domain a p (costs_in members reached) (suc place) (drop (suc place) members))) cost_is
+      ap (candidates_from domain (announced_at a p) (costs_in members reached) place) (drop-cons members place m within)
+      ∙ ap (λ (x : Member). cons_some (announcement_contender domain place x.bgp_id (announced_by a place p) (costs_in members reached place)) (candidates_from domain (announced_at a p) (costs_in members reached) (suc place) (drop (suc place) members))) (sym is)
+      ∙ ap (λ (n : Option ℕ). cons_some (announcement_contender domain place m.bgp_id (announced_by a place p) n) (candidates_from domain (announced_at a p) (costs_in members reached) (suc place) (drop (suc place) members))) cost_is
 
   pub passed_none : (list all : List Contender) (found : Option Contender) → found ≡ announcement_contender domain place m.bgp_id (announced_by a place p) (cost_in reached m.router) → found ≡ None
-      → list ++ candidates_from domain a p (costs_in members reached) place (drop place members) ≡ all
-      → list ++ candidates_from domain a p (costs_in members reached) (place + 1) (drop (place + 1) members) ≡ all
+      → list ++ candidates_from domain (announced_at a p) (costs_in members reached) place (drop place members) ≡ all
+      → list ++ candidates_from domain (announced_at a p) (costs_in members reached) (place + 1) (drop (place + 1) members) ≡ all
   passed_none list all found found_is none before =
-      rw add-one (ap (λ (l : List Contender). list ++ l) (sym (rest ∙ ap (λ (o : Option Contender). cons_some o (candidates_from domain a p (costs_in members reached) (suc place) (drop (suc place) members))) (sym found_is ∙ none))) ∙ before)
+      rw add-one (ap (λ (l : List Contender). list ++ l) (sym (rest ∙ ap (λ (o : Option Contender). cons_some o (candidates_from domain (announced_at a p) (costs_in members reached) (suc place) (drop (suc place) members))) (sym found_is ∙ none))) ∙ before)
 
   pub passed_some : (list next all : List Contender) (found : Option Contender) (c : Contender) → found ≡ announcement_contender domain place m.bgp_id (announced_by a place p) (cost_in reached m.router) → found ≡ Some c
       → next ≡ list ++ c ∷ []
-      → list ++ candidates_from domain a p (costs_in members reached) place (drop place members) ≡ all
-      → next ++ candidates_from domain a p (costs_in members reached) (place + 1) (drop (place + 1) members) ≡ all
+      → list ++ candidates_from domain (announced_at a p) (costs_in members reached) place (drop place members) ≡ all
+      → next ++ candidates_from domain (announced_at a p) (costs_in members reached) (place + 1) (drop (place + 1) members) ≡ all
   passed_some list next all found c found_is some next_is before =
-      rw (next_is, add-one) (append_assoc list (c ∷ []) (candidates_from domain a p (costs_in members reached) (suc place) (drop (suc place) members))
-      ∙ ap (λ (l : List Contender). list ++ l) (sym (rest ∙ ap (λ (o : Option Contender). cons_some o (candidates_from domain a p (costs_in members reached) (suc place) (drop (suc place) members))) (sym found_is ∙ some))) ∙ before)
+      rw (next_is, add-one) (append_assoc list (c ∷ []) (candidates_from domain (announced_at a p) (costs_in members reached) (suc place) (drop (suc place) members))
+      ∙ ap (λ (l : List Contender). list ++ l) (sym (rest ∙ ap (λ (o : Option Contender). cons_some o (candidates_from domain (announced_at a p) (costs_in members reached) (suc place) (drop (suc place) members))) (sym found_is ∙ some))) ∙ before)
 
 pub passed_all : (domain : Domain) (a : Announcements) (p : IpPrefix) (reached : List Reached) (members : List Member) (place : ℕ) (list all : List Contender) → length members ≤ place
-    → list ++ candidates_from domain a p (costs_in members reached) place (drop place members) ≡ all → list ≡ all
+    → list ++ candidates_from domain (announced_at a p) (costs_in members reached) place (drop place members) ≡ all → list ≡ all
 passed_all domain a p reached members place list all done before =
     let none : drop place members ≡ [] = drop_of_length-le members done in
     sym (append-nil list) ∙ rw none at before
@@ -100,9 +100,9 @@ nearest_all costs list i best all is =
 
 pub chosen : (domain : Domain) (a : Announcements) (edges : List Edge) (reached : List Reached) (slot : ℕ) (p : IpPrefix) (list kept : List Contender) (found : Option ℕ)
     → ((to : ℕ) → costs_in domain.members reached to ≡ slot_cost edges domain.members slot to)
-    → list ≡ candidates_from domain a p (costs_in domain.members reached) 0 domain.members → kept ≡ tied list
+    → list ≡ candidates_from domain (announced_at a p) (costs_in domain.members reached) 0 domain.members → kept ≡ tied list
     → found ≡ cond (list_any (is_of slot) kept) (Some slot) (nearest (costs_in domain.members reached) kept)
-    → unless_own slot (λ e. announced_by a e p) found ≡ offer domain a edges slot p
+    → unless_own slot (announced_at a p) found ≡ offer domain (announced_at a p) edges slot
 unfolding offer choice_of candidates choice
 chosen domain a edges reached slot p list kept found costs list_is kept_is found_is =
     let costs_are : costs_in domain.members reached ≡ slot_cost edges domain.members slot = fun_ext costs in
@@ -126,8 +126,8 @@ kept-canonical as_number xs p kept slot octets is = by_entry (entry_at xs slot p
       subst (λ (l : List ℕ). canonical_octets (attributes_in l) ≡ l) octets_are (entry_has (IsKept as_number) xs slot p e kept some).canonical
 
 pub offered_short : (domain : Domain) (xs : List Announcement) (edges : List Edge) (slot : ℕ) (p : IpPrefix) (octets : List ℕ) → AllByRecursion (IsKept domain.as_number) xs
-    → Some octets ≡ offer domain (announcements_in xs) edges slot p → length octets ≤ 4068
-offered_short domain xs edges slot p octets kept is = offer-fits domain (announcements_in xs) edges slot p octets (kept-canonical domain.as_number xs p kept) (sym is)
+    → Some octets ≡ offer domain (announced_at (announcements_in xs) p) edges slot → length octets ≤ 4068
+offered_short domain xs edges slot p octets kept is = offer-fits domain (announced_at (announcements_in xs) p) edges slot octets (kept-canonical domain.as_number xs p kept) (sym is)
 
 -- ---- the cost to a slot
 
@@ -151,6 +151,6 @@ pub cost_some : (members : List Member) (reached : List Reached) (slot : ℕ) (m
 cost_some members reached slot m is = rw (router_got members slot m is) refl
 
 pub short_if : (domain : Domain) (xs : List Announcement) (edges : List Edge) (slot : ℕ) (p : IpPrefix) (found : Option (Bor (List ℕ))) → AllByRecursion (IsKept domain.as_number) xs
-    → option_map (λ (octets : Bor (List ℕ)). octets.now) found ≡ offer domain (announcements_in xs) edges slot p → IfSome found (λ octets. length octets.now ≤ 4068)
+    → option_map (λ (octets : Bor (List ℕ)). octets.now) found ≡ offer domain (announced_at (announcements_in xs) p) edges slot → IfSome found (λ octets. length octets.now ≤ 4068)
 short_if domain xs edges slot p None kept is = tt
 short_if domain xs edges slot p (Some octets) kept is = offered_short domain xs edges slot p octets.now kept is

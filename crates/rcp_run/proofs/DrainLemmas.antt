@@ -15,7 +15,7 @@ use Rattle.rcp_model.specs.LinkState.{same_number}
 use Rattle.rcp_model.specs.Updates.{Table}
 use Rattle.rcp_model.specs.Edges.{rising_edges}
 use Rattle.rcp_model.specs.Costs.{cost}
-use Rattle.rcp_model.specs.Control.{Domain, Server, Work, same_octets, announced_prefixes, table_of, router_at, cost_between, slot_cost, offer, after, after_all}
+use Rattle.rcp_model.specs.Control.{Domain, Server, Work, same_octets, announced_prefixes, table_of, router_at, cost_between, slot_cost, announced_at, offer, after, after_all}
 use Rattle.rcp_model.specs.Sessions.{slot_in}
 use Rattle.feed_meaning.specs.Platform.{Connections, Platform, domain_of, work_events, cell_update, changed_cells, slot_cells, messages_to, drained, counted, SUMMARY, summary, drained_server, drain_messages, drain}
 use Rattle.rcp_model.proofs.MapLemmas.{get_at-set_at_same, get_at-set_at_other, same_prefix-is, same_prefix-itself, same_prefix-other, prefix_test}
@@ -90,13 +90,13 @@ among-itself [] = tt
 among-itself (p ∷ ps) = (or_left (same_prefix p p) (is_among ps p) (same_prefix-itself p), among-more p ps ps (among-itself ps))
 
 pub work_all : (domain : Domain) (ps : List IpPrefix) (s : Server) → after_all domain (work_events ps) s
-    ≡ record { tables = tables_told (λ slot p. offer domain s.announcements s.edges slot p) ps s.tables; announcements = s.announcements; touched = without_all ps s.touched; edges = s.edges }
+    ≡ record { tables = tables_told (λ slot p. offer domain (announced_at s.announcements p) s.edges slot) ps s.tables; announcements = s.announcements; touched = without_all ps s.touched; edges = s.edges }
 unfolding after_all after
-work_all domain [] s = ap (λ (t : List (ℕ × Table)). let r : Server = record { tables = t; announcements = s.announcements; touched = s.touched; edges = s.edges } in r) (told_none (λ slot p. offer domain s.announcements s.edges slot p) s.tables)
+work_all domain [] s = ap (λ (t : List (ℕ × Table)). let r : Server = record { tables = t; announcements = s.announcements; touched = s.touched; edges = s.edges } in r) (told_none (λ slot p. offer domain (announced_at s.announcements p) s.edges slot) s.tables)
 work_all domain (p ∷ ps) s =
     work_all domain ps (after domain (Work p) s)
     ∙ ap (λ (t : List (ℕ × Table)). let r : Server = record { tables = t; announcements = s.announcements; touched = without_all (p ∷ ps) s.touched; edges = s.edges } in r)
-    (told_first (λ slot p. offer domain s.announcements s.edges slot p) p ps s.tables)
+    (told_first (λ slot p. offer domain (announced_at s.announcements p) s.edges slot) p ps s.tables)
 
 told-other : (offers : IpPrefix → Option (List ℕ)) (ps : List IpPrefix) (t : Table) (q : IpPrefix) → is_among ps q ≡ false → get_at same_prefix q (table_told offers ps t) ≡ get_at same_prefix q t
 told-other offers [] t q h = refl
@@ -138,7 +138,7 @@ no_cells (p ∷ ps) = no_cells ps
 
 module _ (p : Platform) (rising : IsRising p.server.touched) where
   abbrev offers : ℕ → IpPrefix → Option (List ℕ)
-  offers slot q = offer (domain_of p.roster) p.server.announcements p.server.edges slot q
+  offers slot q = offer (domain_of p.roster) (announced_at p.server.announcements q) p.server.edges slot
 
   pub drained_is : drained_server p ≡ record { tables = tables_told offers p.server.touched p.server.tables; announcements = p.server.announcements; touched = []; edges = p.server.edges }
   drained_is =

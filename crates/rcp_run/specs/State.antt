@@ -11,7 +11,7 @@ use Rattle.rcp_model.specs.LinkState.{same_number}
 use Rattle.rcp_model.specs.Edges.{rising_edges}
 use Rattle.rcp_model.specs.declared.event.Edge.{Edge}
 use Rattle.rcp_model.specs.Costs.{Walk}
-use Rattle.rcp_model.specs.Control.{Place, Announcements, same_place, same_octets, router_at, offer}
+use Rattle.rcp_model.specs.Control.{Place, Announcements, same_place, same_octets, router_at, announced_at, offer}
 use Rattle.rcp_model.specs.Control as control
 use Rattle.rcp_model.specs.Updates.{Table}
 use Rattle.rcp_model.specs.Sessions.{SessionState, slot_in}
@@ -147,7 +147,7 @@ updates_told offers (p ∷ ps) table = cell_told p (offers p) table ++ updates_t
 
 -- what each slot is offered, and so what becomes of the tables, and the messages of each
 abbrev pub offers_to : RosterOf → List Announcement → ℕ → IpPrefix → Option (List ℕ)
-offers_to roster entries slot p = offer (domain_of roster) (announcements_in entries) (rising_edges roster.links) slot p
+offers_to roster entries slot p = offer (domain_of roster) (announced_at (announcements_in entries) p) (rising_edges roster.links) slot
 
 abbrev pub tables_told : (ℕ → IpPrefix → Option (List ℕ)) → List IpPrefix → List (ℕ × Table) → List (ℕ × Table)
 tables_told offers ps tables = map (λ entry. (entry.0, table_told (offers entry.0) ps entry.1)) tables

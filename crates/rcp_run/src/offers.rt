@@ -12,7 +12,7 @@ ghost use Rattle.std.specs.Prelude.{◌≡◌, ℕ, ◌≤◌, length, option_ma
 ghost use Rattle.std.specs.List.{list_any, AllByRecursion};
 ghost use Rattle.rcp_model.specs.Edges.{rising_edges};
 ghost use Rattle.rcp_model.specs.Decision.{unbeaten, has_higher_preference, has_shorter_path, has_lower_origin, has_lower_exit, tied, is_of, is_nearer, nearest, contender};
-ghost use Rattle.rcp_model.specs.Control.{Domain, announced_by, announcement_contender, candidates_from, slot_cost, unless_own};
+ghost use Rattle.rcp_model.specs.Control.{Domain, announced_by, announced_at, announcement_contender, candidates_from, slot_cost, unless_own};
 ghost use Rattle.feed_meaning.specs.Platform.{domain_of};
 ghost use Rattle.rcp_run.specs.State.{announcements_in, offers_to, cost_in, costs_in, IsKept};
 
@@ -93,7 +93,7 @@ fn octets_unless_own(
     prefix: Prefix,
 ) -> Option<&[u8]>
     ensures { option_map (λ octets. octets.now) result
-        ≡ unless_own slot (λ other. announced_by (announcements_in announcements.now) other prefix) chosen }
+        ≡ unless_own slot (announced_at (announcements_in announcements.now) prefix) chosen }
 {
     let chosen = chosen?;
     if chosen == slot {
@@ -126,7 +126,7 @@ fn candidates(
 ) -> Result<Vec<Candidate>, NoMemory>
     requires { AllByRecursion (IsKept roster.now.as_number) announcements.now }
     ensures { IfOk result (λ list. list.items ≡ candidates_from (domain_of roster.now)
-        (announcements_in announcements.now) prefix (costs_in roster.now.members reached.now) 0 roster.now.members) }
+        (announced_at (announcements_in announcements.now) prefix) (costs_in roster.now.members reached.now) 0 roster.now.members) }
 {
     let mut list = Vec::new(alloc);
     for place in 0..roster.len() {

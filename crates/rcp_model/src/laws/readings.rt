@@ -3,7 +3,7 @@
 ghost use Rattle.std.specs.Prelude.{◌≡◌, [], ◌∷◌, Some, None};
 ghost use Rattle.rcp_model.specs.Examples.{A, C};
 ghost use Rattle.rcp_model.specs.Decision.{tied, choice};
-ghost use Rattle.rcp_model.specs.Control.{slot_cost, candidates, offer};
+ghost use Rattle.rcp_model.specs.Control.{announced_at, slot_cost, candidates, offer};
 ghost use Rattle.rcp_model.specs.Contests.{F, chain, chain_domain, C_is_nearer, C_is_alone, route_by, prefix, attributes_by, by_A, by_A_and_C};
 
 /// Of two routes that are alike, B chooses C's, which is nearer, though A has the lower identifier. With ties broken by
@@ -22,15 +22,15 @@ pub fn exits_are_compared_within_an_as()
 /// C is in another partition than A, so that A's route is none of its candidates, and it is offered nothing, while B is
 /// offered A's route. With candidates of another partition C would be offered it too.
 pub fn candidates_are_of_one_partition()
-    ensures none { candidates chain_domain by_A C_is_alone 2 prefix ≡ [] }
-    ensures alone { offer chain_domain by_A C_is_alone 2 prefix ≡ None }
-    ensures linked { offer chain_domain by_A C_is_alone 1 prefix ≡ Some (attributes_by 1) }
+    ensures none { candidates chain_domain (announced_at by_A prefix) C_is_alone 2 ≡ [] }
+    ensures alone { offer chain_domain (announced_at by_A prefix) C_is_alone 2 ≡ None }
+    ensures linked { offer chain_domain (announced_at by_A prefix) C_is_alone 1 ≡ Some (attributes_by 1) }
 {}
 
 /// A and C announce routes that are alike. Each keeps its own and is offered nothing, while B is offered the nearer one.
 /// With its own route offered back A would be given what it announced.
 pub fn an_own_route_is_not_offered_back()
-    ensures first { offer chain_domain by_A_and_C C_is_nearer 0 prefix ≡ None }
-    ensures last { offer chain_domain by_A_and_C C_is_nearer 2 prefix ≡ None }
-    ensures between { offer chain_domain by_A_and_C C_is_nearer 1 prefix ≡ Some (attributes_by 3) }
+    ensures first { offer chain_domain (announced_at by_A_and_C prefix) C_is_nearer 0 ≡ None }
+    ensures last { offer chain_domain (announced_at by_A_and_C prefix) C_is_nearer 2 ≡ None }
+    ensures between { offer chain_domain (announced_at by_A_and_C prefix) C_is_nearer 1 ≡ Some (attributes_by 3) }
 {}

@@ -4,6 +4,6 @@ use Rattle.rcp_model.proofs.laws.candidates.candidates_are_usable_and_reached.Go
 pub returns : goal.returns
 returns c = record {
   exact = candidate_is;
-  reached = λ domain announcements edges slot p a inside. ((candidate_is domain announcements edges slot p a).0 inside).reached;
+  reached = λ domain announced edges slot a inside. ((candidate_is domain announced edges slot a).0 inside).reached;
   in_order = candidates_rise;
 }
