@@ -4,10 +4,11 @@ use Rattle.std.specs.Prelude.{slice_index}
 use Rattle.std.specs.List.{list_any}
 use Rattle.std.proofs.lemmas.Bool.{ne_eqb}
 use Rattle.std.proofs.lemmas.List.{get_or-take}
-use Rattle.rcp_model.specs.Cut.{cut}
-use Rattle.rcp_model.specs.Messages.{FaultOf, fault, first_failing}
+use Rattle.rcp_base.specs.Cut.{cut}
+use Rattle.rcp_base.specs.Checks.{first_failing}
+use Rattle.rcp_model.specs.Messages.{FaultOf, fault}
 use Rattle.rcp_model.specs.Opens.{parameter_size}
-use Rattle.rcp_model.proofs.CutLemmas.{cut-front, cut-stop}
+use Rattle.rcp_base.proofs.CutLemmas.{cut-front, cut-stop}
 use Rattle.bgp_msg.specs.Opened.{parameters_fault}
 
 abbrev fault_of_cut : List (List ℕ) × List ℕ → Option FaultOf

@@ -9,7 +9,7 @@ use Rattle.rcp_base.specs.IpPrefix.{IpPrefix, masked, octets_for, address_of_oct
 use Rattle.rcp_base.proofs.PrefixLemmas.{prefix_at-cons}
 use Rattle.rcp_model.specs.Messages.{FaultOf, fault}
 use Rattle.rcp_model.specs.Updates.{prefix_size, prefixes_in, prefixes_fault}
-use Rattle.rcp_model.proofs.CutLemmas.{cut-front, cut-stop}
+use Rattle.rcp_base.proofs.CutLemmas.{cut-front, cut-stop}
 use Rattle.rcp_model.proofs.SectionLemmas.{HasPrefix-from}
 
 abbrev found_at : ℕ → List ℕ → Option (IpPrefix × ℕ)

@@ -2,7 +2,8 @@
 use Rattle.std.specs.Prelude.{ℕ, ◌<◌, ◌^◌, ◌||◌, ◌==◌, Bool, true, List, [], ◌∷◌, Option, Some, None}
 use Rattle.bgp_fault.specs.declared.Data.{Data}
 use Rattle.bgp_fault.specs.declared.Fault.{Fault}
-use Rattle.rcp_model.specs.Messages.{FaultOf, fault, first_failing}
+use Rattle.rcp_base.specs.Checks.{first_failing}
+use Rattle.rcp_model.specs.Messages.{FaultOf, fault}
 use Rattle.rcp_model.specs.Opens.{OpenFields, has_unknown_parameter, has_partial_parameter, open_fault}
 use Rattle.bgp_msg.specs.declared.open.OpenBody.{OpenBody}
 

@@ -11,7 +11,7 @@ use Rattle.rcp_model.specs.Updates.{Table, after_message}
 use Rattle.rcp_base.specs.Feed.{FeedRecord}
 use Rattle.rcp_model.specs.Rosters.{RosterOf}
 use Rattle.feed_meaning.specs.Platform.{cell_update, NumbersRise, Headline}
-use Rattle.rcp_model.proofs.MapLemmas.{get_at-put_at_same, get_at-put_at_other, get_at-without_passed, get_at-without_left, prefix_test, same_prefix-is, same_prefix-other}
+use Rattle.rcp_base.proofs.MapLemmas.{get_at-put_at_same, get_at-put_at_other, get_at-without_passed, get_at-without_left, prefix_test, same_prefix-is, same_prefix-other}
 use Rattle.rcp_model.proofs.ReadingLemmas.{messages_in-concat}
 use Rattle.rcp_model.proofs.UpdateLemmas.{length-update_octets, IsMessage-update_octets, after_message-update_octets}
 use Rattle.feed_meaning.proofs.RunLemmas.{CellUpdates}

@@ -12,7 +12,7 @@ use Rattle.rcp_model.specs.Sessions.{SessionEvent, Announce, Withdraw, Ending, D
 use Rattle.rcp_model.specs.Sessions as session
 use Rattle.rcp_model.specs.Telling.{IsTold}
 use Rattle.feed_meaning.specs.Platform.{work_events, server_event, end_events, seat_events}
-use Rattle.rcp_model.proofs.MapLemmas.{get_at-put_at_same, get_at-put_at_other, get_at-without_left}
+use Rattle.rcp_base.proofs.MapLemmas.{get_at-put_at_same, get_at-put_at_other, get_at-without_left}
 use Rattle.rcp_model.proofs.ServerLemmas.{number_test, number-other, Settled, settled-up, settled-down, settled-change, settled-work}
 use Rattle.rcp_model.proofs.AllLemmas.{all-append}
 use Rattle.rcp_model.proofs.CourseLemmas.{is_up}

@@ -9,7 +9,7 @@ use Rattle.rcp_model.specs.Messages.{IsMessage, messages_in}
 use Rattle.rcp_model.specs.Updates.{Table, after_message, after_messages, replay}
 use Rattle.rcp_model.specs.Control.{Domain, Server, Work, same_octets, table_of, announced_at, offer, after, after_all}
 use Rattle.feed_meaning.specs.Platform.{cell_update, cell_of, changed_cells, work_events}
-use Rattle.rcp_model.proofs.MapLemmas.{get_at-set_at_same, get_at-set_at_other, same_prefix-is, same_prefix-other, prefix_test}
+use Rattle.rcp_base.proofs.MapLemmas.{get_at-set_at_same, get_at-set_at_other, same_prefix-is, same_prefix-other, prefix_test}
 use Rattle.rcp_model.proofs.ServerLemmas.{worked-table}
 
 -- What holds of an UPDATE for one cell, and of a list of messages: the codec's part, shown elsewhere.

@@ -14,7 +14,7 @@ use Rattle.rcp_model.specs.LinkState.{same_number}
 use Rattle.rcp_model.specs.Sessions.{Doing, Ending, Phase, OpenSent, Claiming, Negotiated, SessionState, Answer, Octets, Seat, Moment, End, later_of, answer, begun, begun_established, is_closed, seat_taken, stepped, then_also, seat_of, slot_in}
 use Rattle.rcp_model.specs.Telling.{IsTold, AreOctets}
 use Rattle.feed_meaning.specs.Platform.{Connections, Platform, is_slot, is_free, Turn, turn, simple_turn, claim_turn, octets_turn, connection_at, ready_turn, slot_named, turns_of, after_turn, after_turns, turn_output, noted, record_turns}
-use Rattle.rcp_model.proofs.MapLemmas.{get_at-set_at_other}
+use Rattle.rcp_base.proofs.MapLemmas.{get_at-set_at_other}
 use Rattle.rcp_model.proofs.ServerLemmas.{number_test, number-other}
 use Rattle.rcp_model.proofs.AllLemmas.{all-append}
 use Rattle.feed_meaning.proofs.RunLemmas.{Replays-nothing}

@@ -14,7 +14,7 @@ use Rattle.rcp_model.specs.Control.{Server, table_of, after_all}
 use Rattle.rcp_model.specs.Sessions.{Ending, Phase, OpenSent, Claiming, OpenConfirm, Established, Closed, SessionState, is_closed, seat_of, slot_in}
 use Rattle.rcp_model.specs.Telling.{IsTold, AreOctets}
 use Rattle.feed_meaning.specs.Platform.{Connections, Platform, domain_of, Turn, server_event, seat_events, turn_events, if_open, after_turn, MESSAGE, messages_to, end_record, turn_output, sent_to}
-use Rattle.rcp_model.proofs.MapLemmas.{get_at-set_at_same, get_at-set_at_other}
+use Rattle.rcp_base.proofs.MapLemmas.{get_at-set_at_same, get_at-set_at_other}
 use Rattle.rcp_model.proofs.ServerLemmas.{number_test, number-other, Settled}
 use Rattle.rcp_model.proofs.UpdateLemmas.{after_messages-append}
 use Rattle.rcp_model.proofs.AllLemmas.{all-append}

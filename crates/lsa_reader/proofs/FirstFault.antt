@@ -7,18 +7,19 @@ use Rattle.std.proofs.lemmas.Int.{of_z-to_z}
 use Rattle.std.specs.Int.{w32, cast_signed, cast_unsigned}
 use Rattle.std.specs.Option.{unwrap_or}
 use Rattle.rcp_model.specs.LinkState.{RouterLink, RouterLsa}
-use Rattle.lsa_reader.specs.declared.lsa.LsaFault.{LsaFault}
-use Rattle.lsa_reader.specs.declared.lsa.LsaFault.TheVariants.{Short, Checksum, Links, Owner}
+use Rattle.rcp_model.specs.declared.lsa_fault.LsaFault.{LsaFault}
+use Rattle.rcp_model.specs.declared.lsa_fault.LsaFault.TheVariants.{Short, Checksum, Links, Owner}
 use Rattle.lsa_reader.specs.declared.lsa.LsaRefusal.{LsaRefusal}
 use Rattle.lsa_reader.specs.declared.lsa.LsaRefusal.TheVariants.{Fault, NoMemory}
 use Rattle.std.specs.Option.{ok_or}
-use Rattle.lsa_reader.specs.RouterLsas.{has_zero_sums, summed, age_field, sequence_field, checksum_field, links_in, link_count, link_state_id, advertising_router, lsa_of}
-use Rattle.lsa_reader.specs.Faults.{checks, first_failing, lsa_at, Refuses, Gives}
+use Rattle.rcp_base.specs.Checks.{first_failing, unless}
+use Rattle.rcp_model.specs.RouterLsas.{has_zero_sums, summed, age_field, sequence_field, checksum_field, links_in, link_count, link_state_id, advertising_router, lsa_of, lsa_checks, lsa_at}
+use Rattle.lsa_reader.specs.Answers.{Refuses, Gives}
 
 -- the answer by what each check says
 abbrev judged : Bool → Bool → Bool → Bool → RouterLsa → Result RouterLsa LsaFault
 judged short sums links owner lsa =
-    elim (first_failing ((short, Short) ∷ (sums, Checksum) ∷ (links, Links) ∷ (owner, Owner) ∷ [])) [ Some fault ↦ Err fault | None ↦ Ok lsa ]
+    unless (first_failing ((short, Short) ∷ (sums, Checksum) ∷ (links, Links) ∷ (owner, Owner) ∷ [])) lsa
 
 abbrev is_short : List ℕ → Bool
 is_short octets = ltb (length octets) 24
@@ -33,7 +34,7 @@ abbrev is_foreign : List ℕ → Bool
 is_foreign octets = not (eqb (link_state_id octets) (advertising_router octets))
 
 lsa_at-judged : (octets : List ℕ) → lsa_at octets ≡ judged (is_short octets) (is_unsummed octets) (is_unfilled octets) (is_foreign octets) (lsa_of octets)
-unfolding lsa_at checks
+unfolding lsa_at lsa_checks
 lsa_at-judged octets = refl
 
 judged-short : (a b c d : Bool) (lsa : RouterLsa) → a ≡ true → judged a b c d lsa ≡ Err Short

@@ -2,7 +2,7 @@
 use Rattle.std.proofs.Common.{◌≡◌, ◌++◌, ◌+◌, ◌-◌, ◌<◌, ◌∙◌, ◌∷◌, [], ℕ, suc, List, Option, Some, None, length, ap, sym, refl, append_assoc, append-nil, arith}
 use Rattle.std.specs.Option.{option_map, option_and_then}
 use Rattle.rcp_model.specs.LinkState.{RouterLink}
-use Rattle.lsa_reader.specs.RouterLsas.{link_at, links_in}
+use Rattle.rcp_model.specs.RouterLsas.{link_at, links_in}
 
 -- links that were read, in front of those that are still to be read
 abbrev pub with_front : List RouterLink → Option (List RouterLink) → Option (List RouterLink)

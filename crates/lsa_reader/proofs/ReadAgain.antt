@@ -8,8 +8,8 @@ use Rattle.std.specs.Option.{option_map, option_and_then}
 use Rattle.std.specs.List.{flat_map, AllByRecursion}
 use Rattle.std.specs.Int.{w16, w32, to_be_bytes, from_be_bytes, cast_signed, cast_unsigned}
 use Rattle.rcp_model.specs.LinkState.{RouterLink, RouterLsa}
-use Rattle.lsa_reader.specs.RouterLsas.{has_zero_sums, summed, age_field, sequence_field, checksum_field, link_count, link_len, link_of, link_at, links_in, link_octets, octets_with, Spells, FitsLink, FitsLsa, with_checksum}
-use Rattle.lsa_reader.specs.Faults.{lsa_at}
+use Rattle.rcp_model.specs.RouterLsas.{has_zero_sums, summed, age_field, sequence_field, checksum_field, link_count, link_len, link_of, link_at, links_in, lsa_at}
+use Rattle.lsa_reader.specs.Writing.{link_octets, octets_with, Spells, FitsLink, FitsLsa, with_checksum}
 use Rattle.lsa_reader.proofs.FirstFault.{IsSummed, lsa_at-ok}
 
 -- ---- links

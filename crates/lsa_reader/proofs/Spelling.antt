@@ -7,7 +7,8 @@ use Rattle.std.proofs.lemmas.Bool.{eq-eqb, and_from}
 use Rattle.std.specs.List.{flat_map}
 use Rattle.std.specs.Int.{w16, w32, to_be_bytes, cast_unsigned}
 use Rattle.rcp_model.specs.LinkState.{RouterLink, RouterLsa}
-use Rattle.lsa_reader.specs.RouterLsas.{weighted, has_zero_sums, summed, link_octets, written_len, octets_with, Spells}
+use Rattle.rcp_model.specs.RouterLsas.{weighted, has_zero_sums, summed}
+use Rattle.lsa_reader.specs.Writing.{link_octets, written_len, octets_with, Spells}
 use Rattle.lsa_reader.proofs.Sums.{sum-append, sum-cons, weighted-append}
 
 -- the summed octets before the checksum, and those behind it

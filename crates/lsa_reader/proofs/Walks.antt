@@ -1,11 +1,15 @@
 -- The walk over the LSAs of a packet goes forward.
-use Rattle.std.proofs.Common.{◌≡◌, ◌+◌, ◌-◌, ◌<◌, ◌≤◌, ◌∙◌, [], ℕ, zero, suc, Bool, true, false, List, Option, Some, None, length, drop, cond, ltb, ap, sym, refl, subst, arith}
+use Rattle.std.proofs.Common.{◌≡◌, ◌+◌, ◌-◌, ◌<◌, ◌≤◌, ◌∙◌, [], ◌∷◌, ℕ, zero, suc, Bool, true, false, List, Option, Some, None, length, drop, cond, ltb, ap, sym, refl, subst, arith}
 use Rattle.std.specs.Option.{option_and_then}
-use Rattle.std.proofs.lemmas.Bool.{ltb-false, ltb-true}
-use Rattle.lsa_reader.specs.RouterLsas.{length_field}
+use Rattle.std.proofs.lemmas.Bool.{ltb-false, ltb-true, lt-ltb}
+use Rattle.std.proofs.lemmas.Bool.Decides.{nat_tests}
+use Rattle.rcp_base.specs.Cut.{cut}
+use Rattle.rcp_base.proofs.CutLemmas.{cut-front, cut-stop}
+use Rattle.rcp_model.specs.RouterLsas.{lsa_length}
+use Rattle.rcp_model.specs.LsaWalk.{lsa_len, lsa_count, Walked, lsas_at}
+use Rattle.lsa_reader.specs.Walking.{place_after, IsOnWalk, with_lsa, IsStep}
 use Rattle.std.proofs.Common.{take, Ok, Err}
-use Rattle.lsa_reader.specs.declared.lsa.LsaFault.{LsaFault}
-use Rattle.lsa_reader.specs.LsaWalk.{lsa_len, lsa_count, place_after, IsOnWalk, Walked, with_first, lsas_at, IsStep}
+use Rattle.rcp_model.specs.declared.lsa_fault.LsaFault.{LsaFault}
 
 abbrev measured : Bool → Bool → Bool → ℕ → Option ℕ
 measured few little over len = cond few None (cond little None (cond over None (Some len)))
@@ -20,13 +24,13 @@ measured_some false false false n len e = (refl, refl, refl, cc)
 pub record IsLsaLen (octets : List ℕ) (len : ℕ) : Type 0 where
   pub least : 20 ≤ len
   pub there : len ≤ length octets
-  pub is_field : length_field octets ≡ len
+  pub is_field : lsa_length octets ≡ len
 
 pub IsLsaLen-from_len : (octets : List ℕ) (len : ℕ) → lsa_len octets ≡ Some len → IsLsaLen octets len
 IsLsaLen-from_len octets len e =
-    let facts = measured_some (ltb (length octets) 20) (ltb (length_field octets) 20) (ltb (length octets) (length_field octets)) (length_field octets) len e in
-    let least : 20 ≤ length_field octets = ltb-false _ _ facts.1 in
-    let there : length_field octets ≤ length octets = ltb-false _ _ facts.2 in
+    let facts = measured_some (ltb (length octets) 20) (ltb (lsa_length octets) 20) (ltb (length octets) (lsa_length octets)) (lsa_length octets) len e in
+    let least : 20 ≤ lsa_length octets = ltb-false _ _ facts.1 in
+    let there : lsa_length octets ≤ length octets = ltb-false _ _ facts.2 in
     record { least = omega (arith, facts.3); there = omega (arith, facts.3); is_field = facts.3 }
 
 -- one step of the walk, seen from behind it
@@ -124,19 +128,31 @@ not_stuck i n packet at place e f less differ stop = by_order (ltb i n) refl
 
 -- ---- the walk over the list of LSAs
 
+abbrev walked : ℕ → List (List ℕ) → Walked
+walked count found = record { lsas = take count found; short = ltb (length found) count }
+
 lsas_at-one : (left : ℕ) (octets : List ℕ) (len : ℕ) → 0 < left → lsa_len octets ≡ Some len →
-    lsas_at left octets ≡ with_first (take len octets) (lsas_at (left - 1) (drop len octets))
+    lsas_at left octets ≡ with_lsa (take len octets) (lsas_at (left - 1) (drop len octets))
 lsas_at-one zero octets len less e = absurd (omega arith)
 lsas_at-one (suc n) octets len less e =
     let one : suc n - 1 ≡ n = omega arith in
-    ap (λ (found : Option ℕ). elim found as (λ _. Walked) [ None ↦ record { lsas = []; short = true } | Some len ↦ with_first (take len octets) (lsas_at n (drop len octets)) ]) e
-    ∙ ap (λ k. with_first (take len octets) (lsas_at k (drop len octets))) (sym one)
+    let is = IsLsaLen-from_len octets len e in
+    let front = cut-front lsa_len len octets e (omega (arith, is.least)) is.there in
+    let behind = (cut lsa_len (drop len octets)).0 in
+    ap (λ (c : List (List ℕ) × List ℕ). walked (suc n) c.0) front
+    ∙ ap (λ (short : Bool). let w : Walked = record { lsas = take len octets ∷ take n behind; short = short } in w) (fewer (length behind) n)
+    ∙ ap (λ (k : ℕ). with_lsa (take len octets) (walked k behind)) (sym one)
+  where
+    fewer : (m n : ℕ) → ltb (suc m) (suc n) ≡ ltb m n
+    fewer m n = grind (arith, nat_tests)
 
 lsas_at-short : (left : ℕ) (octets : List ℕ) → 0 < left → lsa_len octets ≡ None →
     (let short : Walked = record { lsas = []; short = true } in lsas_at left octets ≡ short)
 lsas_at-short zero octets less e = absurd (omega arith)
 lsas_at-short (suc n) octets less e =
-    ap (λ (found : Option ℕ). elim found as (λ _. Walked) [ None ↦ record { lsas = []; short = true } | Some len ↦ with_first (take len octets) (lsas_at n (drop len octets)) ]) e
+    let none_found : ltb 0 (suc n) ≡ true = lt-ltb 0 (suc n) less in
+    ap (λ (c : List (List ℕ) × List ℕ). walked (suc n) c.0) (cut-stop lsa_len octets e)
+    ∙ ap (λ (short : Bool). let w : Walked = record { lsas = []; short = short } in w) none_found
 
 -- no place is come to twice, so a place tells how many LSAs end before it
 pub done_at_count : (n count : ℕ) (packet : List ℕ) (place : ℕ) → n ≤ count → place_after n packet ≡ Some place →

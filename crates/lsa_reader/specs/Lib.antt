@@ -1,3 +1,3 @@
-pub mod RouterLsas
-pub mod LsaWalk
-pub mod Faults
+pub mod Writing
+pub mod Walking
+pub mod Answers

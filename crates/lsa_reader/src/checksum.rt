@@ -1,6 +1,6 @@
 // The checksum of an LSA (RFC 2328 section 12.1.7).
 ghost use Rattle.std.specs.Prelude.{◌≡◌, ◌%◌, ◌<◌, ◌≤◌, ◌+◌, ◌-◌, ◌*◌, ◌^◌, length, sum};
-ghost use Rattle.lsa_reader.specs.RouterLsas.{weighted, has_zero_sums as zero_sums};
+ghost use Rattle.rcp_model.specs.RouterLsas.{weighted, has_zero_sums as zero_sums};
 
 const MODULUS: u32 = 255;
 

@@ -1,8 +1,8 @@
 // A law over all LSAs. It is the contract of a function that does nothing.
 ghost use Rattle.std.specs.Prelude.{◌≡◌, List, ℕ, Ok};
 ghost use Rattle.rcp_model.specs.LinkState.{RouterLsa};
-ghost use Rattle.lsa_reader.specs.RouterLsas.{FitsLsa, Spells, checksum_field, with_checksum};
-ghost use Rattle.lsa_reader.specs.Faults.{lsa_at};
+ghost use Rattle.rcp_model.specs.RouterLsas.{checksum_field, lsa_at};
+ghost use Rattle.lsa_reader.specs.Writing.{FitsLsa, Spells, with_checksum};
 
 /// What is written is read again, with the checksum that was written.
 pub fn written_is_read()

@@ -28,9 +28,8 @@ mod walking;
 mod writing;
 
 pub use laws::written_is_read;
-pub use lsa::{
-    Lsa, LsaFault, LsaLink, LsaRefusal, POINT_TO_POINT, ROUTER_LSA, STUB, TRANSIT, VIRTUAL,
-};
+pub use lsa::{Lsa, LsaLink, LsaRefusal, POINT_TO_POINT, ROUTER_LSA, STUB, TRANSIT, VIRTUAL};
+pub use rcp_model::LsaFault;
 pub use reading::read;
 pub use walking::next_lsa;
 pub use writing::write;

@@ -1,12 +1,14 @@
 // Router LSAs out of octets.
 ghost use Rattle.std.specs.Prelude.{◌≡◌, ◌≤◌, ◌+◌, length, Some, None, MatchOption, ok_or};
 ghost use Rattle.std.specs.Int.{w16, w32};
-ghost use Rattle.lsa_reader.specs.RouterLsas.{number_at, link_at, links_in};
-ghost use Rattle.lsa_reader.specs.Faults.{lsa_at, Gives};
+ghost use Rattle.rcp_base.specs.Octets.{number_at};
+ghost use Rattle.rcp_model.specs.RouterLsas.{link_at, links_in, lsa_at};
+ghost use Rattle.lsa_reader.specs.Answers.{Gives};
 
 use crate::checksum::has_zero_sums;
-use crate::lsa::{Lsa, LsaFault, LsaLink, LsaRefusal};
+use crate::lsa::{Lsa, LsaLink, LsaRefusal};
 use rcp_base::RouterId;
+use rcp_model::LsaFault;
 use std::alloc::Global;
 
 const BEFORE_LINKS: usize = 24;

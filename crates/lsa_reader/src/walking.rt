@@ -1,9 +1,10 @@
 // The LSAs of a Link State Update, one after another.
 ghost use Rattle.std.specs.Prelude.{◌≡◌, ◌≤◌, ◌<◌, ◌+◌, ◌-◌, ◌↔◌, ℕ, length, drop, Some, None, Ok, Err, true, IsNone, IsTrue, IfOk, IfErr, IfSome, MatchOption, slice_index};
-ghost use Rattle.lsa_reader.specs.LsaWalk.{first_place, lsa_count, lsa_len as len_of, place_after, IsOnWalk, IsStep};
+ghost use Rattle.rcp_model.specs.LsaWalk.{first_place, lsa_count, lsa_len as len_of};
+ghost use Rattle.lsa_reader.specs.Walking.{place_after, IsOnWalk, IsStep};
 
-use crate::lsa::LsaFault;
 use crate::reading::{u16_at, u32_at};
+use rcp_model::LsaFault;
 
 const FIRST_PLACE: usize = 28;
 

@@ -1,6 +1,6 @@
 // Octets out of router LSAs.
 ghost use Rattle.std.specs.Prelude.{◌≡◌, ◌≤◌, ◌<◌, ◌+◌, ◌*◌, ◌^◌, ◌↔◌, ◌++◌, length, take, drop, IsNone, IfSome, IfNone};
-ghost use Rattle.lsa_reader.specs.RouterLsas.{Spells, written_len, header_octets as header_of, octets_with, link_octets as octets_of_link};
+ghost use Rattle.lsa_reader.specs.Writing.{Spells, written_len, header_octets as header_of, octets_with, link_octets as octets_of_link};
 
 use crate::checksum::checksum;
 use crate::lsa::{Lsa, LsaLink, ROUTER_LSA};

@@ -1,7 +1,7 @@
 -- What becomes of an LSA, by what is found at its router.
 use Rattle.std.proofs.Common.{◌≡◌, ℕ, ◌+◌, ◌<◌, ◌≤◌, true, false, leb, List, length, min, Some, None, refl, ap, ap₂, subst, ◌∙◌, arith, le-leb}
 use Rattle.std.proofs.lemmas.Bool.{lt-leb}
-use Rattle.rcp_model.specs.Maps.{get_at}
+use Rattle.rcp_base.specs.Maps.{get_at}
 use Rattle.rcp_model.specs.LinkState.{LsaHeader, RouterLsa, Kept, LinkState, same_number, Newer, Flushed, Dropped, capped, header_at, against, installation}
 use Rattle.lsdb.specs.Databases.{header_after}
 

@@ -6,9 +6,9 @@ use Rattle.std.specs.List.Sorted.{IsStrictlySortedBy}
 use Rattle.std.proofs.lemmas.Bool.{false≢true, leb-false}
 use Rattle.std.specs.Prelude.{⊤}
 use Rattle.std.proofs.lemmas.Map.Entries.{option_filter}
-use Rattle.rcp_model.specs.Maps.{get_at, put_at, without}
+use Rattle.rcp_base.specs.Maps.{get_at, put_at, without}
 use Rattle.rcp_model.specs.LinkState.{RouterLsa, Kept, LinkState, same_number, header_at, capped, against, Installation, Newer, Same, Older, Flushed, Dropped, installation, installed, aged}
-use Rattle.rcp_model.proofs.MapLemmas.{get_at-put_at_same, get_at-put_at_other, get_at-without_passed, get_at-without_left}
+use Rattle.rcp_base.proofs.MapLemmas.{get_at-put_at_same, get_at-put_at_other, get_at-without_passed, get_at-without_left}
 use Rattle.lsdb.specs.Databases.{IsKept, IsOnce, Changes, Holds}
 use Rattle.lsdb.proofs.MapOrder.{number_test, lookup_is, is_eq-number, once-rising, once-put, once-filter, get-filter, same-length, filter-less}
 use Rattle.lsdb.proofs.Answering.{state_of}

@@ -4,11 +4,11 @@ use Rattle.std.proofs.lemmas.Bool.{false≢true}
 use Rattle.std.proofs.lemmas.Bool.Decides.{nat_tests}
 use Rattle.std.proofs.lemmas.List.Elements.{Contains-append_left, Contains-append_right, Contains-append_cases}
 use Rattle.rcp_model.specs.declared.event.Edge.{Edge}
-use Rattle.rcp_model.specs.Maps.{get_at, put_at, without}
+use Rattle.rcp_base.specs.Maps.{get_at, put_at, without}
 use Rattle.rcp_model.specs.LinkState.{LsaHeader, RouterLink, RouterLsa, Kept, LinkState, same_number, kept_of, is_more_recent, Installation, Newer, Same, Older, Flushed, Dropped, installation, installed, aged}
 use Rattle.rcp_model.specs.Edges.{metric_to, learned, edges_of}
 use Rattle.rcp_model.proofs.MemberLemmas.{Contains-head, Contains-tail, Contains-cases, Contains-none}
-use Rattle.rcp_model.proofs.MapLemmas.{get_at-put_at_same, get_at-put_at_other, get_at-without_passed, get_at-without_left}
+use Rattle.rcp_base.proofs.MapLemmas.{get_at-put_at_same, get_at-put_at_other, get_at-without_passed, get_at-without_left}
 use Rattle.std.proofs.lemmas.Map.Entries.{option_filter}
 use Rattle.lsdb.proofs.MapOrder.{number_test, once-put, once-filter, get-filter}
 use Rattle.lsdb.proofs.Installing.{state_after, is_young}

@@ -13,9 +13,9 @@ use Rattle.rcp_model.proofs.MemberLemmas.{Contains-tail, Contains-cases, Contain
 use Rattle.std.specs.List.Sorted.{IsStrictlySortedBy}
 use Rattle.std.proofs.lemmas.Bool.{false≢true}
 use Rattle.std.proofs.lemmas.Bool.Decides.{nat_tests}
-use Rattle.rcp_model.specs.Maps.{get_at, put_at}
+use Rattle.rcp_base.specs.Maps.{get_at, put_at}
 use Rattle.rcp_model.specs.LinkState.{Kept, same_number}
-use Rattle.rcp_model.proofs.MapLemmas.{IsKeyTest, get_at-put_at_other}
+use Rattle.rcp_base.proofs.MapLemmas.{IsKeyTest, get_at-put_at_other}
 use Rattle.lsdb.specs.Databases.{IsOnce}
 
 pub number_test : IsKeyTest same_number

@@ -1,9 +1,9 @@
 -- What stands in front of a stream, and that more octets behind it change nothing of it.
-use Rattle.std.proofs.Common.{◌≡◌, ◌++◌, drop, length-append, ◌≤◌, ◌∙◌, ℕ, Bool, true, false, not, ◌&&◌, List, length, take, cond, ltb, leb, eqb, ap, sym, refl, arith}
+use Rattle.std.proofs.Common.{◌≡◌, ◌++◌, length-append, ◌≤◌, ◌∙◌, ℕ, Bool, true, false, not, ◌&&◌, List, length, cond, ltb, leb, eqb, ap, sym, refl, arith}
 use Rattle.std.proofs.lemmas.Bool.{ltb-false, le-ltb}
 use Rattle.std.proofs.lemmas.Bool.Decides.{nat_tests}
-use Rattle.std.proofs.lemmas.List.{get_or_append_left, take-append-drop, length-take-le}
-use Rattle.ospf_packet.specs.OspfStream.{Front, whole, part, lost, front_of, version, packet_type, is_faultless, packet_len, IsPacket}
+use Rattle.std.proofs.lemmas.List.{get_or_append_left}
+use Rattle.rcp_base.specs.OspfPackets.{Front, whole, part, lost, front_of, version, packet_type, is_faultless, packet_len, IsPacket}
 
 -- what a whole packet in front says of its header and its length
 pub record HasPacket (octets : List ℕ) (len : ℕ) : Type 0 where
@@ -89,18 +89,15 @@ front_of-append_lost octets more e =
     ap (λ short. judged short (is_faultless (octets ++ more)) brief (packet_len (octets ++ more))) is_long
     ∙ ap (λ faultless. judged false faultless brief (packet_len (octets ++ more))) is_faulty
 
--- the octets of a packet in front are a packet
-pub IsPacket-take : (octets : List ℕ) (len : ℕ) → front_of octets ≡ whole len → IsPacket (take len octets)
-IsPacket-take octets len e =
-    let p = HasPacket-from_front octets len e in
-    let is_len : length (take len octets) ≡ len = length-take-le len octets p.there in
-    let long : 24 ≤ length (take len octets) = omega (arith, p.least) in
-    let again : take len octets ++ drop len octets ≡ octets = take-append-drop len octets in
-    front_of-from_packet (take len octets) (length (take len octets))
+-- octets that are a packet in front of others are one alone
+pub front_of-append_seen : (piece more : List ℕ) → front_of (piece ++ more) ≡ whole (length piece) → IsPacket piece
+front_of-append_seen piece more e =
+    let p = HasPacket-from_front (piece ++ more) (length piece) e in
+    front_of-from_packet piece (length piece)
     (record {
-      header = long;
-      faultless = sym (is_faultless-append (take len octets) (drop len octets) long) ∙ ap is_faultless again ∙ p.faultless;
-      is_len = sym (packet_len-append (take len octets) (drop len octets) long) ∙ ap packet_len again ∙ p.is_len ∙ sym is_len;
-      least = long;
+      header = p.least;
+      faultless = sym (is_faultless-append piece more p.least) ∙ p.faultless;
+      is_len = sym (packet_len-append piece more p.least) ∙ p.is_len;
+      least = p.least;
       there = omega arith;
     })

@@ -1,15 +1,15 @@
 -- Calls of a framer, one after another, hand out the packets of the one reading.
 use Rattle.std.proofs.Common.{◌≡◌, ◌++◌, ◌+◌, ◌-◌, ◌^◌, ◌≤◌, ◌∙◌, ◌∷◌, [], ℕ, List, length, min, ap, sym, refl, append_assoc, append-nil, length-append, arith}
-use Rattle.std.specs.List.{AllByRecursion}
-use Rattle.ospf_packet.specs.OspfStream.{whole, lost, front_of, IsPacket, IsRest, octets_of, Reads, packets_in, rest_in}
+use Rattle.std.specs.List.{concat, AllByRecursion}
+use Rattle.rcp_base.specs.OspfPackets.{whole, lost, front_of, IsPacket, IsPacketRest, ReadsPackets, packets_in, rest_in}
 use Rattle.ospf_packet.specs.Framing.{Framing, Call, fed, handed, capped, at_start, after_next, Run, fed_octets, handed_packets}
 use Rattle.ospf_packet.proofs.Streams.{only_reading, packets_in-lost}
 
 -- what is handed out and then what is held are the octets that came, and the place is counted along
 pub record Accounts (start : Framing) (calls : List Call) (end : Framing) : Type 0 where
-  pub octets : start.held ++ fed_octets calls ≡ octets_of (handed_packets calls) ++ end.held
+  pub octets : start.held ++ fed_octets calls ≡ concat (handed_packets calls) ++ end.held
   pub each : AllByRecursion IsPacket (handed_packets calls)
-  pub place : end.place ≡ min (start.place + length (octets_of (handed_packets calls))) (2 ^ 64 - 1)
+  pub place : end.place ≡ min (start.place + length (concat (handed_packets calls))) (2 ^ 64 - 1)
 
 after_whole : (old : Framing) (len : ℕ) → front_of old.held ≡ whole len →
     (let new : Framing = record { held = []; place = capped (old.place + len) } in after_next old ≡ new)
@@ -30,7 +30,7 @@ Run-accounts start end (fed octets ∷ calls) fits run =
     record {
       octets = sym (append_assoc start.held octets (fed_octets calls)) ∙ ap (λ xs. xs ++ fed_octets calls) (sym held) ∙ others.octets;
       each = others.each;
-      place = others.place ∙ ap (λ n. min (n + length (octets_of (handed_packets calls))) (2 ^ 64 - 1)) place;
+      place = others.place ∙ ap (λ n. min (n + length (concat (handed_packets calls))) (2 ^ 64 - 1)) place;
     }
 Run-accounts start end (handed octets ∷ calls) fits run =
     let middle = run.0 in
@@ -44,23 +44,23 @@ Run-accounts start end (handed octets ∷ calls) fits run =
       octets = ap (λ xs. xs ++ fed_octets calls) is_held
           ∙ ap (λ xs. octets ++ (xs ++ fed_octets calls)) (sym held)
           ∙ ap (λ xs. octets ++ xs) others.octets
-          ∙ sym (append_assoc octets (octets_of (handed_packets calls)) end.held);
+          ∙ sym (append_assoc octets (concat (handed_packets calls)) end.held);
       each = (ap front_of (sym is_held) ∙ front, others.each);
-      place = omega (arith, others.place, length-append octets (octets_of (handed_packets calls)));
+      place = omega (arith, others.place, length-append octets (concat (handed_packets calls)));
     }
 
 -- the framer's packets and rest are those of the one reading
-pub Run-reads : (calls : List Call) (end : Framing) → Run at_start calls end → IsRest end.held →
-    Reads (fed_octets calls) (handed_packets calls) end.held
+pub Run-reads : (calls : List Call) (end : Framing) → Run at_start calls end → IsPacketRest end.held →
+    ReadsPackets (fed_octets calls) (handed_packets calls) end.held
 Run-reads calls end run last =
     let all = Run-accounts at_start end calls (omega arith) run in
     record { stream_is = all.octets; each = all.each; last = last }
 
-pub Run-packets : (calls : List Call) (end : Framing) → Run at_start calls end → IsRest end.held →
+pub Run-packets : (calls : List Call) (end : Framing) → Run at_start calls end → IsPacketRest end.held →
     (handed_packets calls ≡ packets_in (fed_octets calls)) × (end.held ≡ rest_in (fed_octets calls))
 Run-packets calls end run last = only_reading (fed_octets calls) (handed_packets calls) end.held (Run-reads calls end run last)
 
-pub Run-place : (calls : List Call) (end : Framing) → Run at_start calls end → end.place ≡ capped (length (octets_of (handed_packets calls)))
+pub Run-place : (calls : List Call) (end : Framing) → Run at_start calls end → end.place ≡ capped (length (concat (handed_packets calls)))
 Run-place calls end run =
     let all = Run-accounts at_start end calls (omega arith) run in
     omega (arith, all.place)

@@ -1,169 +1,111 @@
 -- Each stream has exactly one reading.
-use Rattle.std.proofs.Common.{◌≡◌, ◌++◌, ◌-◌, ◌<◌, ◌≤◌, ◌∙◌, ◌∷◌, [], ℕ, zero, suc, List, length, take, drop, ap, sym, refl, subst, append_assoc, append-nil, length-drop, arith}
-use Rattle.std.proofs.lemmas.List.{take-append-drop}
-use Rattle.std.proofs.Math.Seq.{take-append_seam, drop-append_seam}
-use Rattle.std.specs.List.{AllByRecursion}
-use Rattle.ospf_packet.specs.OspfStream.{Front, whole, part, lost, front_of, IsPacket, IsRest, octets_of, Reads, packets_behind, rest_behind, packets_in, rest_in}
-use Rattle.ospf_packet.proofs.Reading.{HasPacket-from_front, front_of-append_whole, front_of-append_lost, IsPacket-take}
+use Rattle.std.proofs.Common.{◌≡◌, ◌++◌, ◌∙◌, ◌∷◌, [], ⊎_elim, ℕ, List, Option, Some, None, length, ap, sym, refl, subst, append-nil, arith}
+use Rattle.std.specs.List.{concat, AllByRecursion}
+use Rattle.rcp_base.specs.Cut.{cut}
+use Rattle.rcp_base.specs.OspfPackets.{Front, whole, part, lost, front_of, IsPacket, IsPacketRest, ReadsPackets, packet_size, packets_in, rest_in}
+use Rattle.rcp_base.proofs.CutLemmas.{IsSize, IsLocal, IsFront, cut-stop, cut-whole, cut-rest, cut-concat, cut-later, pieces_are_fronts}
+use Rattle.ospf_packet.proofs.Reading.{HasPacket-from_front, front_of-append_whole, front_of-append_lost, front_of-append_seen}
 
--- octets that were read already are skipped
+-- ---- the length of the packet in front
 
-packets_behind-drop : (n : ℕ) (octets : List ℕ) → packets_behind n octets ≡ packets_in (drop n octets)
-packets_behind-drop zero octets = refl
-packets_behind-drop (suc n) [] = refl
-packets_behind-drop (suc n) (x ∷ xs) = packets_behind-drop n xs
+abbrev size_at : Front → Option ℕ
+size_at front = elim front [ whole len ↦ Some len | part ↦ None | lost ↦ None ]
 
-rest_behind-drop : (n : ℕ) (octets : List ℕ) → rest_behind n octets ≡ rest_in (drop n octets)
-rest_behind-drop zero octets = refl
-rest_behind-drop (suc n) [] = refl
-rest_behind-drop (suc n) (x ∷ xs) = rest_behind-drop n xs
+size-whole : (octets : List ℕ) (len : ℕ) → front_of octets ≡ whole len → packet_size octets ≡ Some len
+unfolding packet_size
+size-whole octets len e = ap size_at e
 
--- the two functions at each thing that can stand in front
+front-sized : (octets : List ℕ) (len : ℕ) → packet_size octets ≡ Some len → front_of octets ≡ whole len
+unfolding packet_size
+front-sized octets len e = by_front (front_of octets) refl e where
+  by_front : (front : Front) → front_of octets ≡ front → size_at front ≡ Some len → front_of octets ≡ whole len
+  by_front (whole n) is e = is ∙ cc
+  by_front part is e = cc
+  by_front lost is e = cc
 
-abbrev packets_at : ℕ → List ℕ → Front → List (List ℕ)
-packets_at x xs front = elim front [ whole len ↦ take len (x ∷ xs) ∷ packets_behind (len - 1) xs | part ↦ [] | lost ↦ [] ]
+size-none : (octets : List ℕ) → IsPacketRest octets → packet_size octets ≡ None
+unfolding packet_size
+size-none octets last = by_front (front_of octets) refl where
+  by_front : (front : Front) → front_of octets ≡ front → size_at front ≡ None
+  by_front (whole len) is = absurd (last len is)
+  by_front part is = refl
+  by_front lost is = refl
 
-abbrev rest_at : ℕ → List ℕ → Front → List ℕ
-rest_at x xs front = elim front [ whole len ↦ rest_behind (len - 1) xs | part ↦ x ∷ xs | lost ↦ x ∷ xs ]
+rest-unsized : (octets : List ℕ) → packet_size octets ≡ None → IsPacketRest octets
+rest-unsized octets none len e = let sized = size-whole octets len e in cc
 
-none_in_nothing : {A : Type 0} (len : ℕ) → front_of [] ≡ whole len → A
-none_in_nothing len e = cc
+IsSize-packet : IsSize packet_size
+IsSize-packet = record {
+  positive = λ octets n e. let p = HasPacket-from_front octets n (front-sized octets n e) in omega (arith, p.least);
+  within = λ octets n e. let p = HasPacket-from_front octets n (front-sized octets n e) in p.there;
+}
 
-no_empty_packet : {A : Type 0} (octets : List ℕ) → front_of octets ≡ whole 0 → A
-no_empty_packet octets e = let p = HasPacket-from_front octets 0 e in absurd (omega (arith, p.least))
+-- a packet is one by itself, and stays what it is, whatever follows
+IsPacket-sized : (piece more : List ℕ) → packet_size (piece ++ more) ≡ Some (length piece) → IsPacket piece
+IsPacket-sized piece more e = front_of-append_seen piece more (front-sized (piece ++ more) (length piece) e)
 
-packets_in-whole : (octets : List ℕ) (len : ℕ) → front_of octets ≡ whole len → packets_in octets ≡ take len octets ∷ packets_in (drop len octets)
-packets_in-whole [] len e = none_in_nothing len e
-packets_in-whole (x ∷ xs) zero e = no_empty_packet (x ∷ xs) e
-packets_in-whole (x ∷ xs) (suc n) e =
-    let less : suc n - 1 ≡ n = omega arith in
-    ap (packets_at x xs) e
-    ∙ ap (λ k. take (suc n) (x ∷ xs) ∷ packets_behind k xs) less
-    ∙ ap (λ packets. take (suc n) (x ∷ xs) ∷ packets) (packets_behind-drop n xs)
+IsFront-packet : (piece : List ℕ) → IsPacket piece → IsFront packet_size piece
+IsFront-packet piece p = record { seen = λ more. size-whole (piece ++ more) (length piece) (front_of-append_whole piece more (length piece) p) }
 
-rest_in-whole : (octets : List ℕ) (len : ℕ) → front_of octets ≡ whole len → rest_in octets ≡ rest_in (drop len octets)
-rest_in-whole [] len e = none_in_nothing len e
-rest_in-whole (x ∷ xs) zero e = no_empty_packet (x ∷ xs) e
-rest_in-whole (x ∷ xs) (suc n) e =
-    let less : suc n - 1 ≡ n = omega arith in
-    ap (rest_at x xs) e ∙ ap (λ k. rest_behind k xs) less ∙ rest_behind-drop n xs
+IsLocal-packet : IsLocal packet_size
+IsLocal-packet = record { anyway = λ piece more other e. let front = IsFront-packet piece (IsPacket-sized piece more e) in front.seen other }
 
-packets_at-rest : (x : ℕ) (xs : List ℕ) (front : Front) → ((len : ℕ) → front ≡ whole len → ⊥) → packets_at x xs front ≡ []
-packets_at-rest x xs (whole len) last = absurd (last len refl)
-packets_at-rest x xs part last = refl
-packets_at-rest x xs lost last = refl
+all_fronts : (packets : List (List ℕ)) → AllByRecursion IsPacket packets → AllByRecursion (IsFront packet_size) packets
+all_fronts [] each = tt
+all_fronts (first ∷ packets) each = (IsFront-packet first each.0, all_fronts packets each.1)
 
-rest_at-rest : (x : ℕ) (xs : List ℕ) (front : Front) → ((len : ℕ) → front ≡ whole len → ⊥) → rest_at x xs front ≡ x ∷ xs
-rest_at-rest x xs (whole len) last = absurd (last len refl)
-rest_at-rest x xs part last = refl
-rest_at-rest x xs lost last = refl
+all_packets : (packets : List (List ℕ)) → AllByRecursion (IsFront packet_size) packets → AllByRecursion IsPacket packets
+all_packets [] each = tt
+all_packets (first ∷ packets) each = (IsPacket-sized first [] (each.0.seen []), all_packets packets each.1)
 
-pub packets_in-rest : (octets : List ℕ) → IsRest octets → packets_in octets ≡ []
-packets_in-rest [] last = refl
-packets_in-rest (x ∷ xs) last = packets_at-rest x xs (front_of (x ∷ xs)) last
+-- ---- the one reading
 
-pub rest_in-rest : (octets : List ℕ) → IsRest octets → rest_in octets ≡ octets
-rest_in-rest [] last = refl
-rest_in-rest (x ∷ xs) last = rest_at-rest x xs (front_of (x ∷ xs)) last
-
--- packets in front of a stream
-
-packets_in-packet : (first rest : List ℕ) → IsPacket first → packets_in (first ++ rest) ≡ first ∷ packets_in rest
-packets_in-packet first rest p =
-    packets_in-whole (first ++ rest) (length first) (front_of-append_whole first rest (length first) p)
-    ∙ ap (λ octets. octets ∷ packets_in (drop (length first) (first ++ rest))) (take-append_seam first rest)
-    ∙ ap (λ octets. first ∷ packets_in octets) (drop-append_seam first rest)
-
-rest_in-packet : (first rest : List ℕ) → IsPacket first → rest_in (first ++ rest) ≡ rest_in rest
-rest_in-packet first rest p =
-    rest_in-whole (first ++ rest) (length first) (front_of-append_whole first rest (length first) p)
-    ∙ ap rest_in (drop-append_seam first rest)
-
-pub packets_in-packets : (packets : List (List ℕ)) (rest : List ℕ) → AllByRecursion IsPacket packets →
-    packets_in (octets_of packets ++ rest) ≡ packets ++ packets_in rest
-packets_in-packets [] rest each = refl
-packets_in-packets (first ∷ packets) rest each =
-    ap packets_in (append_assoc first (octets_of packets) rest)
-    ∙ packets_in-packet first (octets_of packets ++ rest) each.0
-    ∙ ap (λ others. first ∷ others) (packets_in-packets packets rest each.1)
-
-pub rest_in-packets : (packets : List (List ℕ)) (rest : List ℕ) → AllByRecursion IsPacket packets →
-    rest_in (octets_of packets ++ rest) ≡ rest_in rest
-rest_in-packets [] rest each = refl
-rest_in-packets (first ∷ packets) rest each =
-    ap rest_in (append_assoc first (octets_of packets) rest)
-    ∙ rest_in-packet first (octets_of packets ++ rest) each.0
-    ∙ rest_in-packets packets rest each.1
+cut-rest_alone : (rest : List ℕ) → IsPacketRest rest → cut packet_size rest ≡ ([], rest)
+cut-rest_alone rest last = cut-stop packet_size rest (size-none rest last)
 
 -- there is no other reading
-pub only_reading : (stream : List ℕ) (packets : List (List ℕ)) (rest : List ℕ) → Reads stream packets rest →
+cut-packets : (packets : List (List ℕ)) (rest : List ℕ) → AllByRecursion IsPacket packets → IsPacketRest rest →
+    cut packet_size (concat packets ++ rest) ≡ (packets, rest)
+cut-packets packets rest each last =
+    cut-concat packet_size IsSize-packet packets rest (all_fronts packets each)
+    ∙ ap (λ (r : List (List ℕ) × List ℕ). (packets ++ r.0, r.1)) (cut-rest_alone rest last)
+    ∙ ap (λ (l : List (List ℕ)). (l, rest)) (append-nil packets)
+
+pub only_reading : (stream : List ℕ) (packets : List (List ℕ)) (rest : List ℕ) → ReadsPackets stream packets rest →
     (packets ≡ packets_in stream) × (rest ≡ rest_in stream)
-only_reading stream packets rest r = (
-  sym (ap packets_in r.stream_is ∙ packets_in-packets packets rest r.each
-      ∙ ap (λ others. packets ++ others) (packets_in-rest rest r.last) ∙ append-nil packets),
-  sym (ap rest_in r.stream_is ∙ rest_in-packets packets rest r.each ∙ rest_in-rest rest r.last),
-)
+only_reading stream packets rest r =
+    let is : cut packet_size stream ≡ (packets, rest) = ap (cut packet_size) r.stream_is ∙ cut-packets packets rest r.each r.last in (
+      sym (ap (λ (c : List (List ℕ) × List ℕ). c.0) is),
+      sym (ap (λ (c : List (List ℕ) × List ℕ). c.1) is),
+    )
 
 -- and there is this one
 
-Reads-packet : (first rest : List ℕ) → IsPacket first → Reads rest (packets_in rest) (rest_in rest) →
-    Reads (first ++ rest) (packets_in (first ++ rest)) (rest_in (first ++ rest))
-Reads-packet first rest p r =
-    let packets = packets_in-packet first rest p in
-    let last = rest_in-packet first rest p in
-    rw (packets, last) (record {
-      stream_is = ap (λ octets. first ++ octets) r.stream_is ∙ sym (append_assoc first (octets_of (packets_in rest)) (rest_in rest));
-      each = (p, r.each);
-      last = r.last;
-    })
+rest_of_nothing : IsPacketRest []
+rest_of_nothing len e = cc
 
-Reads-rest : (stream : List ℕ) → IsRest stream → Reads stream (packets_in stream) (rest_in stream)
-Reads-rest stream last =
-    let packets = packets_in-rest stream last in
-    let rest = rest_in-rest stream last in
-    rw (packets, rest) (record { stream_is = refl; each = tt; last = last })
-
-Reads-front : (stream : List ℕ) (front : Front) → front_of stream ≡ front →
-    ((rest : List ℕ) → length rest < length stream → Reads rest (packets_in rest) (rest_in rest)) →
-    Reads stream (packets_in stream) (rest_in stream)
-Reads-front stream (whole len) e behind =
-    let p = HasPacket-from_front stream len e in
-    let shorter : length (drop len stream) < length stream = omega (arith, length-drop len stream, p.least, p.there) in
-    let Read : List ℕ → Type 0 = λ octets. Reads octets (packets_in octets) (rest_in octets) in
-    subst Read (take-append-drop len stream)
-    (Reads-packet (take len stream) (drop len stream) (IsPacket-take stream len e) (behind (drop len stream) shorter))
-Reads-front stream part e behind = Reads-rest stream (λ len w. cc)
-Reads-front stream lost e behind = Reads-rest stream (λ len w. cc)
-
-Reads-within : (most : ℕ) (stream : List ℕ) → length stream ≤ most → Reads stream (packets_in stream) (rest_in stream)
-Reads-within most [] short = Reads-rest [] (λ len e. none_in_nothing len e)
-Reads-within zero (x ∷ xs) short = absurd (omega arith)
-Reads-within (suc most) (x ∷ xs) short =
-    Reads-front (x ∷ xs) (front_of (x ∷ xs)) refl (λ rest shorter. Reads-within most rest (omega arith))
-
-pub one_reading : (stream : List ℕ) → Reads stream (packets_in stream) (rest_in stream)
-one_reading stream = Reads-within (length stream) stream (omega arith)
+pub one_reading : (stream : List ℕ) → ReadsPackets stream (packets_in stream) (rest_in stream)
+one_reading stream = record {
+  stream_is = cut-whole packet_size IsSize-packet stream;
+  each = all_packets (packets_in stream) (pieces_are_fronts packet_size IsSize-packet IsLocal-packet stream);
+  last = ⊎_elim
+      (λ (none : rest_in stream ≡ []). subst IsPacketRest (sym none) rest_of_nothing)
+      (λ (none : packet_size (rest_in stream) ≡ None). rest-unsized (rest_in stream) none)
+      (cut-rest packet_size IsSize-packet stream);
+}
 
 -- what more octets add to a reading
 
 pub packets_in-append : (stream more : List ℕ) → packets_in (stream ++ more) ≡ packets_in stream ++ packets_in (rest_in stream ++ more)
-packets_in-append stream more =
-    let r = one_reading stream in
-    ap (λ octets. packets_in (octets ++ more)) r.stream_is
-    ∙ ap packets_in (append_assoc (octets_of (packets_in stream)) (rest_in stream) more)
-    ∙ packets_in-packets (packets_in stream) (rest_in stream ++ more) r.each
+packets_in-append stream more = ap (λ (c : List (List ℕ) × List ℕ). c.0) (cut-later packet_size IsSize-packet IsLocal-packet stream more)
 
 pub rest_in-append : (stream more : List ℕ) → rest_in (stream ++ more) ≡ rest_in (rest_in stream ++ more)
-rest_in-append stream more =
-    let r = one_reading stream in
-    ap (λ octets. rest_in (octets ++ more)) r.stream_is
-    ∙ ap rest_in (append_assoc (octets_of (packets_in stream)) (rest_in stream) more)
-    ∙ rest_in-packets (packets_in stream) (rest_in stream ++ more) r.each
+rest_in-append stream more = ap (λ (c : List (List ℕ) × List ℕ). c.1) (cut-later packet_size IsSize-packet IsLocal-packet stream more)
 
 -- where the framing is lost, no packet comes any more
 pub packets_in-lost : (stream more : List ℕ) → front_of (rest_in stream) ≡ lost → packets_in (stream ++ more) ≡ packets_in stream
 packets_in-lost stream more e =
     let still : front_of (rest_in stream ++ more) ≡ lost = front_of-append_lost (rest_in stream) more e in
     packets_in-append stream more
-    ∙ ap (λ others. packets_in stream ++ others) (packets_in-rest (rest_in stream ++ more) (λ len w. cc))
+    ∙ ap (λ (c : List (List ℕ) × List ℕ). packets_in stream ++ c.0) (cut-rest_alone (rest_in stream ++ more) (λ len w. cc))
     ∙ append-nil (packets_in stream)

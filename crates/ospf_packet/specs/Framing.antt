@@ -1,6 +1,6 @@
 -- What a framer has of a stream, and what its calls do to it.
 use Rattle.std.specs.Prelude.{◌≡◌, ℕ, ◌+◌, ◌-◌, ◌^◌, ◌<◌, ◌≤◌, List, [], ◌∷◌, ◌++◌, length, min, IsTrue}
-use Rattle.ospf_packet.specs.OspfStream.{whole, part, lost, front_of, is_faultless, packet_len, header_len}
+use Rattle.rcp_base.specs.OspfPackets.{whole, part, lost, front_of, is_faultless, packet_len, packet_header_len}
 
 -- the octets that came and weren't handed out, and where in the stream the first of them stands
 pub record Framing : Type 0 where
@@ -25,7 +25,7 @@ after_next framing =
 
 -- a framer holds at most a header that no packet has, or one packet
 abbrev pub HoldsOne : List ℕ → Type 0
-HoldsOne held = header_len < length held → IsTrue (is_faultless held) × (length held ≤ packet_len held)
+HoldsOne held = packet_header_len < length held → IsTrue (is_faultless held) × (length held ≤ packet_len held)
 
 -- a call of `feed` that took these octets, or a call of `next` that handed out this packet
 pub data Call : Type 0 where

@@ -1,3 +1,2 @@
-pub mod OspfStream
 pub mod Framing
 pub mod Ends

@@ -1,7 +1,7 @@
 // The framer itself.
 ghost use Rattle.std.specs.Prelude.{◌≡◌, ◌≢◌, ◌<◌, ◌≤◌, ◌+◌, ◌-◌, ◌^◌, ◌↔◌, ◌⊎◌, ◌++◌, [], Ok, Some, None, take, vec_len, min, length, IfOk, IfErr, IfSome, OnOk, OnErr, IsErr};
 ghost use Rattle.std.specs.Borrow.{sem};
-ghost use Rattle.ospf_packet.specs.OspfStream.{Front, whole, part, lost, front_of, IsPacket};
+ghost use Rattle.rcp_base.specs.OspfPackets.{Front, whole, part, lost, front_of, IsPacket};
 
 use crate::header::{HEADER_LEN, PACKET_MAX, is_faultless, packet_len};
 use rcp_base::NoMemory;

@@ -1,6 +1,6 @@
 // The first fields of a packet's header (RFC 2328 section A.3.1).
 ghost use Rattle.std.specs.Prelude.{◌≡◌, ◌<◌, ◌≤◌, ◌^◌, length};
-ghost use Rattle.ospf_packet.specs.OspfStream.{header_len, packet_len as len_of, is_faultless as faultless};
+ghost use Rattle.rcp_base.specs.OspfPackets.{packet_header_len, packet_len as len_of, is_faultless as faultless};
 
 /// The octets of a header.
 pub const HEADER_LEN: usize = 24;
@@ -16,7 +16,7 @@ const LEAST_UPDATE: usize = 28;
 
 /// The length that the header tells.
 pub fn packet_len(header: &[u8]) -> usize
-    requires { header_len ≤ length header.now }
+    requires { packet_header_len ≤ length header.now }
     ensures length { result ≡ len_of header.now }
     ensures fits { result < 2 ^ 16 }
 {
@@ -25,7 +25,7 @@ pub fn packet_len(header: &[u8]) -> usize
 
 /// Whether a packet can have this header.
 pub fn is_faultless(header: &[u8]) -> bool
-    requires { header_len ≤ length header.now }
+    requires { packet_header_len ≤ length header.now }
     ensures { result ≡ faultless header.now }
 {
     let least = if header[1] == LINK_STATE_UPDATE {

@@ -3,7 +3,7 @@ use Rattle.std.proofs.Common.{◌≡◌, ℕ, zero, suc, ◌+◌, ◌-◌, ◌<�
 use Rattle.std.specs.List.{AllByRecursion, concat}
 use Rattle.std.proofs.lemmas.List.{take_at, drop_at, get_or-take, get_or-drop, get_or_past, length-take}
 use Rattle.std.proofs.lemmas.Bool.{cases_lt}
-use Rattle.rcp_model.specs.Cut.{cut, cut_after}
+use Rattle.rcp_base.specs.Cut.{cut, cut_after}
 
 -- octets of the last piece that are still to come are skipped
 cut_after-skips : (size : List ℕ → Option ℕ) (left : ℕ) (xs : List ℕ) → cut_after size left xs ≡ cut size (drop left xs)

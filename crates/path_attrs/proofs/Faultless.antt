@@ -5,7 +5,7 @@ use Rattle.std.specs.List.{list_any, concat, AllByRecursion}
 use Rattle.std.proofs.lemmas.Bool.{cases_Bool, cases_lt, cases_eq, and_parts, le-leb, lt-leb, eqb-true, eqb-false, false≢true}
 use Rattle.std.proofs.lemmas.Bool.Decides.{nat_tests}
 use Rattle.std.proofs.lemmas.List.{length-take, length-drop}
-use Rattle.rcp_model.specs.Cut.{cut}
+use Rattle.rcp_base.specs.Cut.{cut}
 use Rattle.rcp_model.specs.Messages.{FaultOf, fault}
 use Rattle.rcp_model.specs.Attributes as model
 use Rattle.rcp_model.specs.Attributes.{Attribute, attribute_of, attribute_size, attributes_in, attribute_fault, attribute_octets, list_fault, or_else, insert_by_type, by_type, is_kept, written}

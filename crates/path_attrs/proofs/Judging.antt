@@ -11,8 +11,9 @@ use Rattle.bgp_fault.specs.declared.Data.{Data}
 use Rattle.bgp_fault.specs.declared.Data.TheVariants.{Span}
 use Rattle.bgp_fault.specs.declared.Fault.{Fault}
 use Rattle.bgp_fault.specs.Faults.{IsWithin}
-use Rattle.rcp_model.specs.Cut.{cut}
-use Rattle.rcp_model.specs.Messages.{FaultOf, fault, first_failing}
+use Rattle.rcp_base.specs.Cut.{cut}
+use Rattle.rcp_base.specs.Checks.{first_failing}
+use Rattle.rcp_model.specs.Messages.{FaultOf, fault}
 use Rattle.rcp_model.specs.Attributes as model
 use Rattle.rcp_model.specs.Attributes.{Attribute, ORIGIN, AS_PATH, NEXT_HOP, attribute_of, attribute_size, attributes_in, attribute_fault, attributes_fault, list_fault, missing_fault, or_else, is_recognised, is_optional, has_other_category, has_other_length, has_faulty_value, value_fault}
 use Rattle.path_attrs.specs.Width.{number_width}

@@ -7,7 +7,7 @@ use Rattle.std.proofs.lemmas.Bool.{le-leb, lt-leb, cases_lt}
 use Rattle.std.proofs.lemmas.Bool.Decides.{nat_tests}
 use Rattle.std.specs.Prelude.{slice_index}
 use Rattle.std.proofs.Math.Bool.{or-true}
-use Rattle.rcp_model.specs.Cut.{cut}
+use Rattle.rcp_base.specs.Cut.{cut}
 use Rattle.rcp_model.specs.Messages.{is_outside}
 use Rattle.rcp_model.specs.Attributes.{number_size, numbers_in, segment_size, segment_of, segments_in, is_faulty_path}
 use Rattle.path_attrs.specs.Width.{number_width, number_octets}

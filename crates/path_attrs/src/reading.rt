@@ -11,7 +11,7 @@ ghost use Rattle.path_attrs.specs.Width.{number_width};
 ghost use Rattle.bgp_fault.specs.declared.Data.TheVariants.{Octet, Span};
 ghost use Rattle.std.specs.List.{list_all};
 ghost use Rattle.bgp_fault.specs.Faults.{IsWithin};
-ghost use Rattle.rcp_model.specs.Cut.{cut};
+ghost use Rattle.rcp_base.specs.Cut.{cut};
 ghost use Rattle.case_table.specs.Rows.{row_of};
 ghost use Rattle.path_attrs.specs.declared.table.TheConstants.{ROWS};
 

@@ -5,3 +5,6 @@ pub mod PrefixTextLemmas
 pub mod WritingLemmas
 pub mod FeedExamples
 pub mod RosterExamples
+pub mod OctetLemmas
+pub mod CutLemmas
+pub mod MapLemmas

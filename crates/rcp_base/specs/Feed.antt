@@ -1,6 +1,7 @@
 -- Recorded feeds: records in frames, one behind the other, and the first fault.
-use Rattle.std.specs.Prelude.{ℕ, zero, suc, ◌+◌, ◌^◌, ◌<◌, ◌≤◌, Bool, true, false, not, ◌&&◌, ◌||◌, ◌==◌, All, List, [], ◌∷◌, ◌++◌, length, take, drop, filter, slice_index, Option, Some, None, is_none, unwrap_or, Result, Ok, Err, nat_lt, nat_le, if◌then◌else◌}
+use Rattle.std.specs.Prelude.{ℕ, zero, suc, ◌+◌, ◌^◌, ◌<◌, ◌≤◌, Bool, true, false, not, ◌&&◌, ◌||◌, ◌==◌, List, [], ◌∷◌, ◌++◌, length, take, drop, filter, slice_index, Option, Some, None, is_none, unwrap_or, Result, Ok, Err, nat_lt, nat_le, if◌then◌else◌}
 use Rattle.std.specs.Int.{w32, w64, to_be_bytes, from_be_bytes}
+use Rattle.rcp_base.specs.Octets.{AreOctets}
 use Rattle.rcp_base.specs.Checks.{first_failing, unless}
 use Rattle.rcp_base.specs.declared.kinds.Kind.{Kind}
 use Rattle.rcp_base.specs.declared.kinds.Kind.TheVariants.{Roster, Ready, Raw, Octets, Closed, Links, Time, Slice, Drain, Finish}
@@ -126,7 +127,7 @@ record_octets item = frame (letter_of item.kind) item.source item.body
 pub record IsRecord (item : FeedRecord) : Type 0 where
   pub source : item.source < 2 ^ 32
   pub length : length item.body ≤ 65536
-  pub octets : All (λ octet. octet < 256) item.body
+  pub octets : AreOctets item.body
 
 -- the seconds of a time record
 abbrev pub moment_of : List ℕ → ℕ

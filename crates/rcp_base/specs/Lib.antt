@@ -1,5 +1,9 @@
+pub mod Octets
 pub mod IpPrefix
 pub mod Text
 pub mod Checks
+pub mod Cut
+pub mod Maps
+pub mod OspfPackets
 pub mod Feed
 pub mod Roster

@@ -9,9 +9,9 @@ use Rattle.std.proofs.lemmas.List.{take-append-le, drop-append-le, get_or_append
 use Rattle.std.proofs.lemmas.Nat.{from_be_bytes-to_be_bytes_2}
 use Rattle.std.proofs.lemmas.Option.{cond_some}
 use Rattle.rcp_model.specs.Attributes.{Attribute, is_extended, value_place, value_length, attribute_size, attribute_of, attributes_in, attribute_octets}
-use Rattle.rcp_model.proofs.CutLemmas.{IsSize, IsLocal, IsFront, cut-pieces, cut-All}
-use Rattle.rcp_model.proofs.OctetLemmas.{octet-fits, two_octets-fit}
-use Rattle.rcp_model.specs.Cut.{cut}
+use Rattle.rcp_base.proofs.CutLemmas.{IsSize, IsLocal, IsFront, cut-pieces, cut-All}
+use Rattle.rcp_base.proofs.OctetLemmas.{octet-fits, two_octets-fit}
+use Rattle.rcp_base.specs.Cut.{cut}
 
 -- ---- where the value stands
 

@@ -6,9 +6,9 @@ use Rattle.std.specs.List.Sorted.{IsNonDecreasingBy}
 use Rattle.std.specs.Int.{w16, to_be_bytes}
 use Rattle.std.proofs.lemmas.List.Elements.{All-nil, All-append, All-from_recursion}
 use Rattle.std.proofs.lemmas.Bool.{cond_both, false≢true}
-use Rattle.rcp_model.specs.Cut.{cut}
+use Rattle.rcp_base.specs.Cut.{cut}
 use Rattle.rcp_model.specs.Attributes.{Attribute, LOCAL_PREF, is_recognised, is_partial, category, attribute_size, attribute_of, attributes_in, value_of, is_kept, written_flags, written, insert_by_type, by_type, default_pref, with_pref, canonical, attribute_octets, canonical_octets}
-use Rattle.rcp_model.proofs.CutLemmas.{IsFront, cut-flat_map_all}
+use Rattle.rcp_base.proofs.CutLemmas.{IsFront, cut-flat_map_all}
 use Rattle.rcp_model.proofs.AttributeLemmas.{IsSize-attribute_size, IsFront-attribute, IsAttribute-attribute_octets, attribute_of-attribute_octets, read_back, IsShort, HasOctets}
 
 -- ---- flags that are written

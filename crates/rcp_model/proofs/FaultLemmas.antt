@@ -3,7 +3,8 @@ use Rattle.std.proofs.Common.{◌≡◌, Bool, true, false, cond, List, [], ◌�
 use Rattle.std.specs.Prelude.{is_none}
 use Rattle.std.specs.List.{AllByRecursion}
 use Rattle.std.proofs.lemmas.Option.{none-some}
-use Rattle.rcp_model.specs.Messages.{FaultOf, first_failing}
+use Rattle.rcp_base.specs.Checks.{first_failing}
+use Rattle.rcp_model.specs.Messages.{FaultOf}
 use Rattle.rcp_model.specs.Attributes.{or_else}
 
 cond-None : (b : Bool) (f : FaultOf) (o : Option FaultOf) → cond b (Some f) o ≡ None → (b ≡ false) × (o ≡ None)

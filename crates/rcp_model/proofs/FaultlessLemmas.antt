@@ -4,7 +4,7 @@ use Rattle.std.specs.Prelude.{filter, is_some, is_none}
 use Rattle.std.specs.List.{list_any, All, AllByRecursion}
 use Rattle.std.specs.Int.{Width}
 use Rattle.std.proofs.lemmas.Bool.{cond_both, eqb-false, or_parts, or_from, and_from, and_left, and_right, false≢true}
-use Rattle.rcp_model.specs.Cut.{cut}
+use Rattle.rcp_base.specs.Cut.{cut}
 use Rattle.rcp_model.specs.Messages.{FaultOf, fault}
 use Rattle.rcp_model.specs.Attributes.{Attribute, ORIGIN, AS_PATH, NEXT_HOP, LOCAL_PREF, is_recognised, is_optional, is_transitive, is_partial, category, attribute_size, attribute_of, attributes_in, value_of, value_fault, has_faulty_value, has_other_category, has_other_length, attribute_fault, or_else, list_fault, missing_fault, attributes_fault, has_route, is_kept, written, insert_by_type, by_type, default_pref, with_pref, canonical, attribute_octets, canonical_octets}
 use Rattle.rcp_model.proofs.FaultLemmas.{HasPassed, all_passed, first_failing-None, or_else-None}

@@ -7,7 +7,7 @@ use Rattle.rcp_model.specs.Messages.{FaultOf, message_size, messages_in, rest_of
 use Rattle.rcp_model.specs.Rosters.{RosterOf}
 use Rattle.rcp_model.specs.Telling.{AreOctets, BringsOctets, IsTold}
 use Rattle.rcp_model.specs.Sessions.{Phase, OpenSent, Claiming, OpenConfirm, Established, Closed, is_closed, reads, SessionState, Doing, nothing, Step, step, handle, handle_all, fault_in_front, with_fault, with_rest, course_of, tick, Input, Octets, Seat, Moment, End, Answer, moment_in, stepped, seat_taken, claim_answered, shut, answer}
-use Rattle.rcp_model.proofs.CutLemmas.{cut-All, cut-whole}
+use Rattle.rcp_base.proofs.CutLemmas.{cut-All, cut-whole}
 use Rattle.rcp_model.proofs.ReadingLemmas.{IsSize-message_size}
 use Rattle.rcp_model.proofs.SessionLemmas.{answer-closed, answer-octets, answer-seat, answer-moment, answer-end}
 use Rattle.rcp_model.proofs.CourseLemmas.{seated_peering, goes-seated, goes-octets, goes-moment, goes-end}

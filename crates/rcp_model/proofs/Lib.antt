@@ -1,13 +1,11 @@
-pub mod CutLemmas
+pub use Rattle.rcp_base.proofs.MapLemmas
 pub mod FaultLemmas
-pub mod OctetLemmas
 pub mod ReadingLemmas
 pub mod SectionLemmas
 pub mod UpdateLemmas
 pub mod AttributeLemmas
 pub mod CanonicalLemmas
 pub mod RouteLemmas
-pub mod MapLemmas
 pub mod RibLemmas
 pub mod OfferLemmas
 pub mod ServerLemmas
@@ -19,6 +17,7 @@ pub mod CandidateLemmas
 pub mod FilterLemmas
 pub mod GraphLemmas
 pub mod MemberLemmas
+pub mod PacketLemmas
 pub mod WalkLemmas
 pub mod FaultlessLemmas
 pub mod SessionLemmas

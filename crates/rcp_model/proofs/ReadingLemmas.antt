@@ -7,9 +7,9 @@ use Rattle.std.proofs.lemmas.Bool.{and_parts, or_parts, or_from, ltb-false}
 use Rattle.std.proofs.lemmas.List.{take-append-le, drop-append-le, get_or_append_left}
 use Rattle.std.proofs.lemmas.Nat.{from_be_bytes-to_be_bytes_2}
 use Rattle.std.proofs.lemmas.Option.{none-some, cond_some}
-use Rattle.rcp_model.specs.Cut.{cut}
+use Rattle.rcp_base.specs.Cut.{cut}
 use Rattle.rcp_model.specs.Messages.{FaultOf, fault, marker, has_marker, length_octets, length_field, type_field, is_outside, least_length, greatest_length, header_fault, message_size, IsMessage, IsRest, IsReading, messages_in, rest_of, message_octets}
-use Rattle.rcp_model.proofs.CutLemmas.{IsSize, IsLocal, IsFront, cut-stop, cut-whole, cut-pieces, cut-rest, cut-append, cut-concat, cut-later}
+use Rattle.rcp_base.proofs.CutLemmas.{IsSize, IsLocal, IsFront, cut-stop, cut-whole, cut-pieces, cut-rest, cut-append, cut-concat, cut-later}
 use Rattle.rcp_model.proofs.FaultLemmas.{HasPassed, all_passed, first_failing-None, is_none-true, is_none-false}
 
 -- ---- the header stands in the first 19 octets

@@ -6,11 +6,11 @@ use Rattle.std.proofs.lemmas.List.Elements.{All-take, All-append, All-replicate,
 use Rattle.std.proofs.lemmas.Bool.{and_parts}
 use Rattle.std.proofs.lemmas.Option.{none-some, same_Some, cond_some}
 use Rattle.rcp_base.specs.IpPrefix.{IpPrefix, IsPrefix, masked, octets_for, address_of_octets, prefix_at, prefix_octets}
-use Rattle.rcp_model.specs.Cut.{cut}
+use Rattle.rcp_base.specs.Cut.{cut}
 use Rattle.rcp_model.specs.Updates.{prefix_size, prefixes_in, prefixes_fault}
-use Rattle.rcp_model.proofs.CutLemmas.{IsSize, IsFront, cut-flat_map_all, cut-All}
+use Rattle.rcp_base.proofs.CutLemmas.{IsSize, IsFront, cut-flat_map_all, cut-All}
 use Rattle.rcp_base.proofs.PrefixLemmas.{read_again, IsPrefix-masked}
-use Rattle.rcp_model.proofs.OctetLemmas.{four_octets-fit}
+use Rattle.rcp_base.proofs.OctetLemmas.{four_octets-fit}
 
 -- where a prefix stands at the front, its octets do
 pub record HasPrefix (octets : List ℕ) (p : IpPrefix) (n : ℕ) : Type 0 where

@@ -7,7 +7,7 @@ use Rattle.std.proofs.lemmas.Bool.{or_from, and_from}
 use Rattle.std.proofs.lemmas.Nat.{from_be_bytes-to_be_bytes_2}
 use Rattle.rcp_base.specs.IpPrefix.{IpPrefix, IsPrefix, prefix_octets}
 use Rattle.rcp_model.specs.Messages.{is_outside, type_field, message_size, IsMessage, message_octets}
-use Rattle.rcp_model.specs.Maps.{is_among}
+use Rattle.rcp_base.specs.Maps.{is_among}
 use Rattle.rcp_model.specs.Attributes.{attributes_in, attributes_fault, or_else}
 use Rattle.rcp_model.specs.Updates.{prefixes_fault, update_fault, changes_of, Sections, leading_number, after_section, section, has_section, sections_of, prefixes_in, update_octets, Table, withdraw_all, announce_all, after_message, after_messages}
 use Rattle.rcp_model.proofs.ReadingLemmas.{IsFront-message, IsMessage-message_octets, length-message_octets}

@@ -3,8 +3,9 @@
 use Rattle.std.specs.Prelude.{ℕ, ◌+◌, ◌*◌, ◌/◌, ◌%◌, Bool, false, not, ◌&&◌, ◌||◌, ◌==◌, List, [], ◌∷◌, ◌++◌, length, take, drop, map, filter, slice_index, Option, Some, None, is_some, is_none, nat_lt, nat_le, if◌then◌else◌}
 use Rattle.std.specs.List.{list_any, flat_map}
 use Rattle.std.specs.Int.{Width, w16, byte_len, to_be_bytes, from_be_bytes}
-use Rattle.rcp_model.specs.Cut.{cut}
-use Rattle.rcp_model.specs.Messages.{FaultOf, fault, first_failing, is_outside}
+use Rattle.rcp_base.specs.Cut.{cut}
+use Rattle.rcp_base.specs.Checks.{first_failing}
+use Rattle.rcp_model.specs.Messages.{FaultOf, fault, is_outside}
 
 pub record Attribute : Type 0 where
   pub flags : ℕ

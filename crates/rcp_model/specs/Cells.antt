@@ -2,7 +2,7 @@
 use Rattle.std.specs.Prelude.{◌≡◌, ℕ, ◌≤◌, List, length, Option, Some, None, IfSome, AllPairs, IsTrue}
 use Rattle.std.specs.List.{AllByRecursion}
 use Rattle.rcp_base.specs.IpPrefix.{IpPrefix, IsPrefix}
-use Rattle.rcp_model.specs.Maps.{get_at, same_prefix, is_before}
+use Rattle.rcp_base.specs.Maps.{get_at, same_prefix, is_before}
 use Rattle.rcp_model.specs.Messages.{IsMessage}
 use Rattle.rcp_model.specs.Updates.{Table, after_messages}
 

@@ -1,12 +1,13 @@
-pub use Rattle.rcp_base.specs.IpPrefix
-pub mod Maps
-pub mod Cut
+pub use Rattle.rcp_base.specs.Maps
 pub mod Messages
 pub mod Opens
 pub mod Attributes
 pub mod Routes
 pub mod Updates
 pub mod LinkState
+pub mod RouterLsas
+pub mod LsaWalk
+pub mod LinkStateUpdates
 pub mod Edges
 pub mod Costs
 pub mod Graphs

@@ -1,6 +1,6 @@
 -- Link state (RFC 2328 sections 12.1, 13.1 and 14): which instance of a router LSA is kept.
 use Rattle.std.specs.Prelude.{ℕ, ◌+◌, ◌-◌, Bool, true, false, not, ◌&&◌, ◌==◌, List, length, filter, min, Option, Some, None, nat_lt, nat_le, if◌then◌else◌, ℤ, int_lt}
-use Rattle.rcp_model.specs.Maps.{get_at, put_at, without}
+use Rattle.rcp_base.specs.Maps.{get_at, put_at, without}
 
 -- MaxAge and MaxAgeDiff (appendix B), in seconds
 abbrev pub max_age : ℕ

@@ -2,7 +2,8 @@
 use Rattle.std.specs.Prelude.{◌≡◌, ◌≢◌, ℕ, ◌+◌, ◌<◌, ◌≤◌, Bool, not, ◌&&◌, ◌||◌, ◌==◌, ◌⊎◌, List, [], ◌∷◌, ◌++◌, length, take, drop, replicate, slice_index, Option, Some, None, is_none, nat_lt, nat_le, if◌then◌else◌, bytes_eq}
 use Rattle.std.specs.List.{concat, AllByRecursion}
 use Rattle.std.specs.Int.{w16, to_be_bytes, from_be_bytes}
-use Rattle.rcp_model.specs.Cut.{cut}
+use Rattle.rcp_base.specs.Checks.{first_failing}
+use Rattle.rcp_base.specs.Cut.{cut}
 
 -- a fault as a NOTIFICATION names it (section 4.5): error code, error subcode and data
 pub record FaultOf : Type 0 where
@@ -12,11 +13,6 @@ pub record FaultOf : Type 0 where
 
 abbrev pub fault : ℕ → ℕ → List ℕ → FaultOf
 fault code sub content = record { code = code; sub = sub; content = content }
-
--- the first of some checks that fails, each with the fault that it is
-abbrev pub first_failing : List (Bool × FaultOf) → Option FaultOf
-first_failing [] = None
-first_failing (check ∷ checks) = if check.0 then Some check.1 else first_failing checks
 
 -- ---- the header (section 4.1): a marker, the length of the message and its type
 

@@ -2,8 +2,9 @@
 use Rattle.std.specs.Prelude.{ℕ, ◌+◌, Bool, not, ◌&&◌, ◌||◌, ◌==◌, List, [], ◌∷◌, ◌++◌, length, take, drop, slice_index, Option, Some, None, nat_le, if◌then◌else◌}
 use Rattle.std.specs.List.{list_any}
 use Rattle.std.specs.Int.{w16, w32, to_be_bytes, from_be_bytes}
-use Rattle.rcp_model.specs.Cut.{cut}
-use Rattle.rcp_model.specs.Messages.{FaultOf, fault, first_failing, message_octets}
+use Rattle.rcp_base.specs.Cut.{cut}
+use Rattle.rcp_base.specs.Checks.{first_failing}
+use Rattle.rcp_model.specs.Messages.{FaultOf, fault, message_octets}
 
 -- what an OPEN offers: the sender's AS, the hold time in seconds, and the sender's BGP Identifier
 pub record OpenFields : Type 0 where

@@ -1,13 +1,11 @@
 -- What a session tells of its router: routes that are those of their octets, and prefixes in form.
-use Rattle.std.specs.Prelude.{◌≡◌, ℕ, ◌<◌, List, All}
+use Rattle.std.specs.Prelude.{◌≡◌, ℕ}
 use Rattle.std.specs.Int.{w16}
 use Rattle.rcp_base.specs.IpPrefix.{IsPrefix}
+pub use Rattle.rcp_base.specs.Octets.{AreOctets}
 use Rattle.rcp_model.specs.Attributes.{attributes_in, canonical_octets}
 use Rattle.rcp_model.specs.Routes.{RouteFields, route_in}
 use Rattle.rcp_model.specs.Sessions.{SessionEvent, Up, Announce, Withdraw, Input, Octets}
-
-abbrev pub AreOctets : List ℕ → Type 0
-AreOctets octets = All (λ o. o < 256) octets
 
 -- a route with the fields of its octets, which are canonical
 pub record IsRouteOf (as_number : ℕ) (route : RouteFields) : Type 0 where

@@ -4,8 +4,8 @@ use Rattle.std.specs.Prelude.{ℕ, ◌+◌, Bool, not, ◌&&◌, ◌==◌, List,
 use Rattle.std.specs.List.{flat_map}
 use Rattle.std.specs.Int.{Width, w16, to_be_bytes, from_be_bytes}
 use Rattle.rcp_base.specs.IpPrefix.{IpPrefix, prefix_at, prefix_octets}
-use Rattle.rcp_model.specs.Cut.{cut}
-use Rattle.rcp_model.specs.Maps.{put_at, without, same_prefix, is_among}
+use Rattle.rcp_base.specs.Cut.{cut}
+use Rattle.rcp_base.specs.Maps.{put_at, without, same_prefix, is_among}
 use Rattle.rcp_model.specs.Messages.{FaultOf, fault, type_field, messages_in, message_octets}
 use Rattle.rcp_model.specs.Attributes.{Attribute, attributes_in, attributes_fault, or_else}
 

@@ -3,6 +3,7 @@
 pub mod candidates;
 pub mod canonical_form;
 pub mod filters;
+pub mod link_state;
 pub mod reading;
 pub mod readings;
 pub mod session_cases;

@@ -4,6 +4,7 @@
 mod costs;
 mod event;
 pub mod laws;
+mod lsa_fault;
 mod octets;
 mod offer;
 mod route;
@@ -11,6 +12,7 @@ mod route_no;
 
 pub use costs::Costs;
 pub use event::{Change, Edge, Event};
+pub use lsa_fault::LsaFault;
 pub use octets::Octets;
 pub use offer::Offer;
 pub use route::Route;

@@ -18,7 +18,7 @@ use Rattle.rcp_model.specs.Costs.{cost}
 use Rattle.rcp_model.specs.Control.{Domain, Server, Work, same_octets, announced_prefixes, table_of, router_at, cost_between, slot_cost, announced_at, offer, after, after_all}
 use Rattle.rcp_model.specs.Sessions.{slot_in}
 use Rattle.feed_meaning.specs.Platform.{Connections, Platform, domain_of, work_events, cell_update, changed_cells, slot_cells, messages_to, drained, counted, SUMMARY, summary, drained_server, drain_messages, drain}
-use Rattle.rcp_model.proofs.MapLemmas.{get_at-set_at_same, get_at-set_at_other, same_prefix-is, same_prefix-itself, same_prefix-other, prefix_test}
+use Rattle.rcp_base.proofs.MapLemmas.{get_at-set_at_same, get_at-set_at_other, same_prefix-is, same_prefix-itself, same_prefix-other, prefix_test}
 use Rattle.rcp_run.specs.declared.costs.Reached.{Reached}
 use Rattle.rcp_run.specs.State.{cost_in, cost_to, costs_in, IsRising, table_told, tables_told, cell_told, updates_told, messages_told, messages_of, told_to, records_told, table_in, router_in, tables_in}
 use Rattle.rcp_run.specs.declared.engine.events.Router.{Router}

@@ -14,7 +14,7 @@ use Rattle.feed_meaning.specs.Platform.{server_event, seat_events, end_events}
 use Rattle.session_core.specs.declared.actions.SessionEvent.{SessionEvent as Told}
 use Rattle.session_core.specs.declared.actions.Closed.{Closed as ClosedBy}
 use Rattle.session_core.specs.Shown.{event_of, ending_of}
-use Rattle.rcp_model.proofs.MapLemmas.{IsKeyTest}
+use Rattle.rcp_base.proofs.MapLemmas.{IsKeyTest}
 use Rattle.rcp_model.proofs.ServerLemmas.{number-other, place_test}
 use Rattle.rcp_run.specs.declared.announcements.Announcement.{Announcement}
 use Rattle.rcp_run.specs.declared.engine.events.Router.{Router}

@@ -12,7 +12,7 @@ use Rattle.rcp_model.specs.Maps.{get_at, put_at}
 use Rattle.rcp_model.specs.LinkState.{same_number}
 use Rattle.rcp_model.specs.Costs.{Walk, stay, step, cost}
 use Rattle.rcp_model.specs.Edges.{same_edge, is_edge_before, include_edge, rising_edges}
-use Rattle.rcp_model.proofs.MapLemmas.{get_at-put_at_same, get_at-put_at_other}
+use Rattle.rcp_base.proofs.MapLemmas.{get_at-put_at_same, get_at-put_at_other}
 use Rattle.rcp_model.proofs.ServerLemmas.{number_test}
 use Rattle.rcp_model.proofs.MemberLemmas.{Contains-head, Contains-tail, Contains-cases, Contains-none}
 use Rattle.rcp_model.proofs.WalkLemmas.{cost_is, IsCost-unique, IsCost-from_settled, cost-same}

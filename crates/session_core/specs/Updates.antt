@@ -8,7 +8,7 @@ use Rattle.rcp_model.specs.Messages.{FaultOf}
 use Rattle.rcp_model.specs.Attributes.{Attribute, attributes_in}
 use Rattle.rcp_model.specs.Routes.{route_of}
 use Rattle.rcp_base.specs.IpPrefix.{IpPrefix}
-use Rattle.rcp_model.specs.Maps.{is_among}
+use Rattle.rcp_base.specs.Maps.{is_among}
 use Rattle.rcp_model.specs.Updates.{sections_of, prefixes_in, update_fault}
 use Rattle.session_core.specs.declared.update.Found.{Found}
 use Rattle.session_core.specs.declared.update.Unread.{Unread}

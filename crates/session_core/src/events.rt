@@ -3,7 +3,7 @@
 ghost use Rattle.std.specs.Prelude.{◌≡◌, [], ◌∷◌, ◌++◌, ◌==◌, true, not, length, map, filter, OnOk, None};
 ghost use Rattle.std.specs.Int.{w16};
 ghost use Rattle.rcp_model.specs.Attributes as attributes;
-ghost use Rattle.rcp_model.specs.Maps.{is_among};
+ghost use Rattle.rcp_base.specs.Maps.{is_among};
 ghost use Rattle.rcp_model.specs.Sessions.{Up, Announce, Withdraw, then_also, telling, changes_events};
 ghost use Rattle.rcp_model.specs.Updates.{prefixes_in, prefixes_fault, changes_of};
 ghost use Rattle.session_core.specs.Shown.{doing_of, event_of};

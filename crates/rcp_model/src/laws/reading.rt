@@ -6,7 +6,7 @@ ghost use Rattle.std.specs.Int.{Width};
 ghost use Rattle.std.specs.List.{concat, flat_map, All, AllByRecursion};
 ghost use Rattle.rcp_base.specs.IpPrefix.{IpPrefix, IsPrefix, prefix_octets};
 ghost use Rattle.rcp_model.specs.Messages.{is_outside, least_length, greatest_length, type_field, IsMessage, IsReading, messages_in, rest_of, message_octets};
-ghost use Rattle.rcp_model.specs.Maps.{is_among};
+ghost use Rattle.rcp_base.specs.Maps.{is_among};
 ghost use Rattle.rcp_model.specs.Attributes.{attributes_in, attributes_fault};
 ghost use Rattle.rcp_model.specs.Updates.{update_fault, changes_of, sections_of, prefixes_in, update_octets, Table, withdraw_all, announce_all, after_message};
 

@@ -1,5 +1,5 @@
 use Rattle.std.proofs.Common.{◌≡◌, ◌+◌, ◌-◌, ◌*◌, ◌%◌, ◌∙◌, length, sum, ap, arith}
-use Rattle.lsa_reader.specs.RouterLsas.{weighted}
+use Rattle.rcp_model.specs.RouterLsas.{weighted}
 use Rattle.lsa_reader.proofs.Sums.{second_zero}
 use Rattle.lsa_reader.proofs.checksum.checksum.Goals as goal
 

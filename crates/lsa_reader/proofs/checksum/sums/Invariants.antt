@@ -1,5 +1,5 @@
 use Rattle.std.proofs.Common.{◌≡◌, ◌%◌, sum, take}
-use Rattle.lsa_reader.specs.RouterLsas.{weighted}
+use Rattle.rcp_model.specs.RouterLsas.{weighted}
 use Rattle.lsa_reader.proofs.checksum.sums.Given as goal
 
 abbrev pub invariant-loop-octet : goal.invariant-loop-octet

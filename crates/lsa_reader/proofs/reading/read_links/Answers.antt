@@ -1,7 +1,7 @@
 use Rattle.std.proofs.Common.{◌≡◌, ◌++◌, ◌+◌, ◌-◌, ◌∷◌, [], ◌∙◌, true, is_ok, ap, sym, arith}
 use Rattle.std.specs.Option.{ok_or}
-use Rattle.lsa_reader.specs.declared.lsa.LsaFault.TheVariants.{Links}
-use Rattle.lsa_reader.specs.RouterLsas.{links_in}
+use Rattle.rcp_model.specs.declared.lsa_fault.LsaFault.TheVariants.{Links}
+use Rattle.rcp_model.specs.RouterLsas.{links_in}
 use Rattle.lsa_reader.proofs.LinkLists.{with_front, links_in-one, links_in-none}
 use Rattle.lsa_reader.proofs.reading.read_links.Goals as goal
 

@@ -1,6 +1,6 @@
 -- The links so far, in front of those that are left, are all.
 use Rattle.std.proofs.Common.{◌≡◌, ◌-◌}
-use Rattle.lsa_reader.specs.RouterLsas.{links_in}
+use Rattle.rcp_model.specs.RouterLsas.{links_in}
 use Rattle.lsa_reader.proofs.LinkLists.{with_front}
 use Rattle.lsa_reader.proofs.reading.read_links.Given as goal
 

@@ -1,4 +1,4 @@
-use Rattle.lsa_reader.specs.LsaWalk.{IsOnWalk}
+use Rattle.lsa_reader.specs.Walking.{IsOnWalk}
 use Rattle.lsa_reader.proofs.tests.walk.Given as goal
 
 abbrev pub invariant-loop-step : goal.invariant-loop-step

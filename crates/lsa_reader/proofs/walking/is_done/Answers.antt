@@ -1,6 +1,7 @@
 -- The walk doesn't come to a place twice, and doesn't stop before one that it comes to.
 use Rattle.std.proofs.Common.{◌∙◌, ap, sym}
-use Rattle.lsa_reader.specs.LsaWalk.{lsa_len, place_after}
+use Rattle.rcp_model.specs.LsaWalk.{lsa_len}
+use Rattle.lsa_reader.specs.Walking.{place_after}
 use Rattle.lsa_reader.proofs.Walks.{not_again, not_stuck}
 use Rattle.lsa_reader.proofs.walking.is_done.Goals as goal
 

@@ -1,6 +1,6 @@
 -- The walk has come to `at`, and to the place that is asked for not before.
 use Rattle.std.proofs.Common.{◌≡◌, ◌≤◌, ℕ, Some, length}
-use Rattle.lsa_reader.specs.LsaWalk.{place_after}
+use Rattle.lsa_reader.specs.Walking.{place_after}
 use Rattle.lsa_reader.proofs.walking.is_done.Given as goal
 
 abbrev pub invariant-loop-ended : goal.invariant-loop-ended

@@ -1,6 +1,6 @@
 use Rattle.std.proofs.Common.{◌∙◌, ap, sym}
-use Rattle.lsa_reader.specs.declared.lsa.LsaFault.TheVariants.{Short}
-use Rattle.lsa_reader.specs.LsaWalk.{lsa_len, lsa_count}
+use Rattle.rcp_model.specs.declared.lsa_fault.LsaFault.TheVariants.{Short}
+use Rattle.rcp_model.specs.LsaWalk.{lsa_len, lsa_count}
 use Rattle.lsa_reader.proofs.Walks.{done_at_count, IsStep-lsa, IsStep-short, IsOnWalk-next}
 use Rattle.lsa_reader.proofs.walking.next_lsa.Goals as goal
 

@@ -1,7 +1,7 @@
 use Rattle.std.proofs.Common.{◌≡◌, ◌++◌, ◌+◌, ◌*◌, ◌∙◌, length, ap, arith}
 use Rattle.std.specs.List.{flat_map}
 use Rattle.rcp_model.specs.LinkState.{RouterLsa}
-use Rattle.lsa_reader.specs.RouterLsas.{header_octets, link_octets}
+use Rattle.lsa_reader.specs.Writing.{header_octets, link_octets}
 use Rattle.lsa_reader.proofs.Spelling.{Spells-from_zero, links_more, all_written}
 use Rattle.lsa_reader.proofs.writing.fill.Goals as goal
 

@@ -1,7 +1,7 @@
 -- The header and the links so far stand in front.
 use Rattle.std.proofs.Common.{◌≡◌, ◌+◌, ◌*◌, ◌++◌, take}
 use Rattle.std.specs.List.{flat_map}
-use Rattle.lsa_reader.specs.RouterLsas.{header_octets, link_octets}
+use Rattle.lsa_reader.specs.Writing.{header_octets, link_octets}
 use Rattle.lsa_reader.proofs.writing.fill.Given as goal
 
 abbrev pub invariant-loop-i : goal.invariant-loop-i

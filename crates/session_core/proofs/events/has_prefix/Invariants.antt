@@ -1,6 +1,6 @@
 -- What stands in the rest stands in the section.
 use Rattle.std.proofs.Common.{◌≡◌, ◌-◌, ◌≤◌, length, drop, None}
-use Rattle.rcp_model.specs.Maps.{is_among}
+use Rattle.rcp_base.specs.Maps.{is_among}
 use Rattle.rcp_model.specs.Updates.{prefixes_in, prefixes_fault}
 use Rattle.session_core.proofs.events.has_prefix.Given as goal
 

@@ -2,7 +2,7 @@
 use Rattle.std.proofs.Common.{◌≡◌, ℕ, Bool, true, false, cond, ◌||◌, eqb, List, [], ◌∷◌, Option, Some, None, refl, ap, ◌∙◌, inl, inr}
 use Rattle.std.proofs.lemmas.Bool.{cases_Bool, and_parts, and_from, eqb-true, eq-eqb, both_ways}
 use Rattle.rcp_base.specs.IpPrefix.{IpPrefix}
-use Rattle.rcp_model.specs.Maps.{get_at, put_at, without, set_at, same_prefix, is_before, include, include_all, is_among}
+use Rattle.rcp_base.specs.Maps.{get_at, put_at, without, set_at, same_prefix, is_before, include, include_all, is_among}
 
 -- a test of equal keys
 pub record IsKeyTest {K : Type 0} (same : K → K → Bool) : Type 0 where

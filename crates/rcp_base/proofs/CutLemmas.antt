@@ -2,7 +2,7 @@
 use Rattle.std.proofs.Common.{◌≡◌, ℕ, zero, suc, ◌-◌, ◌<◌, ◌≤◌, ◌⊎◌, inl, inr, List, [], ◌∷◌, ◌++◌, length, map, take, drop, Option, Some, None, refl, sym, ap, ◌∙◌, subst, arith, take_at, drop_at, length-append, length-take-le, append_assoc, append-nil, take-append-drop, ⊎_elim}
 use Rattle.std.specs.List.{concat, flat_map, All, AllByRecursion}
 use Rattle.std.proofs.lemmas.List.Elements.{All-same, All-take, All-drop}
-use Rattle.rcp_model.specs.Cut.{cut_after, cut}
+use Rattle.rcp_base.specs.Cut.{cut_after, cut}
 
 -- ---- one step
 
