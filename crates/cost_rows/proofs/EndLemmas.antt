@@ -16,7 +16,7 @@ map_member f (y ∷ xs) x member = elim (Contains-cases y xs x member) [
   | inr later ↦ Contains-tail (f y) (map f xs) (f x) (map_member f xs x later)
 ]
 
-member_of_map : {X Y : Type 0} (f : X → Y) (xs : List X) (y : Y) → Contains (map f xs) y → (x : X) × Contains xs x × (f x ≡ y)
+pub member_of_map : {X Y : Type 0} (f : X → Y) (xs : List X) (y : Y) → Contains (map f xs) y → (x : X) × Contains xs x × (f x ≡ y)
 member_of_map f [] y member = absurd (Contains-none y member)
 member_of_map f (x ∷ xs) y member = elim (Contains-cases (f x) (map f xs) y member) [
   | inl same ↦ (x, Contains-head x xs, same)

@@ -3,4 +3,7 @@ pub mod NameLemmas
 pub mod SearchLemmas
 pub mod RowLemmas
 pub mod EndLemmas
-pub mod ViewLemmas
+pub mod LookupLemmas
+pub mod BoundLemmas
+pub mod KeyLemmas
+pub mod ReachLemmas

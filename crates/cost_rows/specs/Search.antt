@@ -1,5 +1,6 @@
 -- A search for the least costs from one router: what it has found, and what is still to be done.
 use Rattle.std.specs.Prelude.{◌≡◌, ℕ, ◌+◌, ◌*◌, ◌^◌, ◌≤◌, ◌⊎◌, ◌==◌, List, [], ◌∷◌, ◌++◌, length, slice_get, slice_index_or, slice_set, Contains, IsPermutation, Option, Some, None, IfSome, IsSomeAnd, sum_by, map, filter_map, zip, option_map, if◌then◌else◌}
+use Rattle.std.specs.List.{AllZip}
 use Rattle.std.specs.List.Sorted.{IsStrictlyIncreasing}
 use Rattle.std.specs.declared.cmp.Reverse.{Reverse}
 use Rattle.rcp_model.specs.declared.event.Edge.{Edge}
@@ -81,3 +82,7 @@ pub record AreNames (edges : List Edge) (names : List ℕ) : Type 0 where
   pub rising : IsStrictlyIncreasing names
   pub ends : (edge : Edge) → Contains edges edge → Contains names edge.from × Contains names edge.to
   pub few : length names ≤ 4096
+
+-- the places of routers among names
+abbrev pub ArePlaces : List ℕ → List ℕ → List ℕ → Type 0
+ArePlaces names = AllZip (λ router place. slice_get names place ≡ Some router)

@@ -8,7 +8,10 @@
 //! A caller may rely on this:
 //!
 //! - `costs` gives exactly the routers that are reached, by rising ID, each with that least sum.
-//! - A `View` can't have a wrong cost: what it answers follows from its edges and members alone.
+//! - A `View` can't have a wrong cost or ranking: what it answers follows from its edges and members alone. A decision that asks
+//!   for many costs pays two steps for each, and `ranked` has the members that are reached, the nearest first.
+//! - `View::renew` makes the view of another graph from rows of the costs that changed, and shares what stayed.
+//! - A [`CostEngine`] finds which costs change as edges come and go. This crate has the contract of engines, and no engine.
 //! - Costs fit 32 bits, since a graph has at most 2,560 routers and an edge costs at most 65,535.
 //!
 //! ```text
@@ -19,13 +22,22 @@
 //! ```
 #![tactic(auto)]
 
+mod engine;
 mod graph;
 mod names;
+mod packed;
+mod reach;
+mod reaches;
+mod row;
 mod search;
 mod view;
 
+pub use engine::CostEngine;
 pub use graph::Graph;
-pub use search::costs;
+pub use names::names_of;
+pub use packed::PackedCost;
+pub use row::Row;
+pub use search::{costs, least_costs, place_of};
 pub use view::View;
 
 #[cfg(test)]

@@ -2,6 +2,7 @@
 
 ghost use Rattle.std.specs.Prelude.{◌≡◌, ℕ, ◌≤◌, length, Contains, IfOk};
 ghost use Rattle.std.specs.List.Sorted.{IsStrictlyIncreasing};
+ghost use Rattle.rcp_model.specs.Graphs.{IsGraph};
 ghost use Rattle.cost_rows.specs.Search.{AreNames, ends_of};
 
 use crate::graph::Graph;
@@ -32,6 +33,7 @@ fn sort(names: &mut Vec<RouterId>)
 pub fn names_of(alloc: Global, graph: &Graph, more: &[RouterId]) -> Result<Vec<RouterId>, NoMemory>
     requires { length more.now ≤ 512 }
     ensures names { IfOk result (λ names. AreNames graph.now names.items) }
+    ensures kept { IfOk result (λ names. IsGraph graph.now) }
     ensures more { IfOk result (λ names. (router : ℕ) → Contains more.now router → Contains names.items router) }
 {
     let mut names = ends(alloc, graph.edges())?;

@@ -31,7 +31,7 @@ pub fn costs(alloc: Global, graph: &Graph, root: RouterId) -> Result<Vec<(Router
 type Waiting = BinaryHeap<(Reverse<u32>, RouterId)>;
 
 /// The place of a router among names that rise.
-fn place_of(names: &[RouterId], router: RouterId) -> usize
+pub fn place_of(names: &[RouterId], router: RouterId) -> usize
     requires rising { IsStrictlyIncreasing names.now }
     requires named { Contains names.now router }
     ensures { slice_get names.now result ≡ Some router }
@@ -144,7 +144,7 @@ fn nothing_found(alloc: Global, names: &[RouterId]) -> Result<Vec<Option<u32>>, 
 }
 
 /// The least costs from a root, each at the place of its router.
-fn least_costs(
+pub fn least_costs(
     alloc: Global,
     graph: &Graph,
     names: &[RouterId],

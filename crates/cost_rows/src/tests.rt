@@ -143,3 +143,25 @@ fn a_view_answers_the_costs_between_slots(rt: HostRuntime) -> Result<(), Fail> {
     }
     Ok(())
 }
+
+#[test]
+fn a_ranking_has_the_nearest_first(rt: HostRuntime) -> Result<(), Fail> {
+    // Slots 1 and 2 are as far from slot 0, and slot 2 has the lower identifier. Slot 0 isn't reached from slot 2.
+    let graph = graph_of(rt.alloc(), &[(1, 3, 5), (1, 4, 5), (3, 1, 5)])?;
+    let same = graph.try_clone()?;
+    let view = View::build(rt.alloc(), &members(), graph)?;
+    let renewed = View::renew(rt.alloc(), &view, same, Vec::new(rt.alloc()))?;
+    for view in [&view, &renewed] {
+        assert_eq!(rt;
+            view.ranked(Slot(0)),
+            [Slot(0), Slot(2), Slot(1)].as_slice()
+        );
+        assert_eq!(rt;
+            view.ranked(Slot(1)),
+            [Slot(1), Slot(0), Slot(2)].as_slice()
+        );
+        assert_eq!(rt; view.ranked(Slot(2)), [Slot(2)].as_slice());
+        assert_eq!(rt; view.ranked(Slot(3)).len(), 0);
+    }
+    Ok(())
+}

@@ -1,100 +1,42 @@
 //! Views: the costs between the members of a roster over one graph.
 
-ghost use Rattle.std.specs.Prelude.{◌≡◌, ℕ, ◌<◌, ◌≤◌, length, map, All, AllPairs, Contains, IfOk};
+ghost use Rattle.std.specs.Prelude.{◌≡◌, ℕ, ◌<◌, ◌≤◌, length, map, slice_get, All, Contains, Some, IfOk};
 ghost use Rattle.std.specs.List.{AllZip};
-ghost use Rattle.rcp_model.specs.Maps.{get_at};
-ghost use Rattle.rcp_model.specs.LinkState.{same_number};
-ghost use Rattle.rcp_model.specs.Graphs.{IsCostRow, AreMembers};
-ghost use Rattle.cost_rows.specs.Search.{AreNames};
+ghost use Rattle.rcp_model.specs.RouteServer.{slot_cost};
+ghost use Rattle.rcp_model.specs.Graphs.{AreMembers};
+ghost use Rattle.cost_rows.specs.Views.{IsRanking, AreRenewals};
 
 use crate::graph::Graph;
-use crate::names::names_of;
-use crate::search::row;
-use rcp_base::{Member, NoMemory, RouterId, Slot};
+use crate::reach::Reach;
+use crate::reaches::{reaches_over, renewed};
+use crate::row::Row;
+use rcp_base::{Member, NoMemory, Slot};
 use rcp_model::Costs;
 use std::alloc::Global;
 use std::marker::Model;
 use std::sync::Arc;
 
-/// The costs from one router: a pair for each router that it reaches, by rising ID.
-#[derive(Debug, Drop)]
-struct Row {
-    pairs: Vec<(RouterId, u32)>,
-}
-
-impl Model for Row {
-    ghost use Rattle.std.specs.Prelude.{ℕ, ◌<◌, List, AllPairs};
-
-    ghost Value = { List (ℕ × ℕ) };
-
-    ghost view = { λ row. row.pairs.items };
-
-    ghost invariant = { λ row. AllPairs (λ (a b : ℕ × ℕ). a.0 < b.0) row.pairs.items };
-}
-
-impl Row {
-    /// The cost to a router, `None` where it isn't reached.
-    fn cost(&self, router: RouterId) -> Option<u32>
-        ensures { result ≡ get_at same_number router self.now }
-    {
-        cost_in(self.pairs.as_slice(), router)
-    }
-}
-
-/// The cost of a router among pairs whose routers rise.
-fn cost_in(pairs: &[(RouterId, u32)], router: RouterId) -> Option<u32>
-    requires { AllPairs (λ (a b : ℕ × ℕ). a.0 < b.0) pairs.now }
-    ensures { result ≡ get_at same_number router pairs.now }
-{
-    let place = pairs.partition_point(|pair| pair.0 < router);
-    let pair = pairs.get(place)?;
-    if pair.0 == router { Some(pair.1) } else { None }
-}
-
-/// The costs from each member, in their order.
-fn rows_of(
-    alloc: Global,
-    members: &[Member],
-    graph: &Graph,
-    names: &[RouterId],
-) -> Result<Vec<Row>, NoMemory>
-    requires names { AreNames graph.now names.now }
-    requires named { All (λ member. Contains names.now member.router) members.now }
-    ensures { IfOk result (λ rows. AllZip (λ member row. IsCostRow graph.now member.router row) members.now rows.items) }
-{
-    let mut rows = Vec::new(alloc);
-    for member in members {
-        let pairs = row(alloc, graph, names, member.router)?;
-        rows.push(Row { pairs })?;
-    }
-    Ok(rows)
-}
-
-/// The routers of members.
-fn routers_of(alloc: Global, members: &[Member]) -> Result<Vec<RouterId>, NoMemory>
-    ensures { IfOk result (λ routers. routers.items ≡ map (λ member. member.router) members.now) }
-{
-    Ok(members.iter().map(|member| member.router).collect(alloc)?)
-}
-
 /// A graph and the members of a roster, with the costs between them. Contracts see the record of edges and members.
 ///
-/// Its type keeps that each cost is the least sum over all walks of its graph's edges.
+/// Its type keeps that each cost is the least sum over all walks of its graph's edges, and that each ranking has exactly the
+/// members that are reached, by cost and then by BGP Identifier. What a member reaches is shared with the view before where
+/// it stayed.
 #[derive(Debug, Drop)]
 pub struct View {
     members: Vec<Member>,
     graph: Graph,
-    rows: Vec<Row>,
+    reaches: Vec<Arc<Reach>>,
 }
 
 impl Model for View {
+    ghost use Rattle.std.specs.Prelude.{map};
     ghost use Rattle.cost_rows.specs.Views.{ViewOf, IsView};
 
     ghost Value = { ViewOf };
 
     ghost view = { λ v. record { edges = v.graph; members = v.members.items } };
 
-    ghost invariant = { λ v. IsView v.graph v.members.items v.rows.items };
+    ghost invariant = { λ v. IsView v.graph v.members.items (map (λ reach. reach.value) v.reaches.items) };
 }
 
 impl View {
@@ -102,22 +44,53 @@ impl View {
 
     /// The view of a graph for at most 512 members, whose routers and BGP Identifiers are distinct.
     ///
-    /// `NoMemory` comes where there was no room for the rows: for M members, V routers and E edges they take about
-    /// M (V + E) log (V + E) steps, and up to M V pairs are kept.
+    /// `NoMemory` comes where there was no room for it. For M members, V routers and E edges it takes about
+    /// M (E log V + M log M) steps, and keeps six octets for each two members.
     pub fn build(alloc: Global, members: &[Member], graph: Graph) -> Result<Arc<View>, NoMemory>
         requires { AreMembers members.now }
         ensures { IfOk result (λ view. view.value ≡ record { edges = graph; members = members.now }) }
     {
-        let routers = routers_of(alloc, members)?;
-        let names = names_of(alloc, &graph, routers.as_slice())?;
-        let rows = rows_of(alloc, members, &graph, names.as_slice())?;
+        let reaches = reaches_over(alloc, members, &graph)?;
         let members = Vec::from_slice(alloc, members)?;
         Ok(Arc::new(
             alloc,
             View {
                 members,
                 graph,
-                rows,
+                reaches,
+            },
+        )?)
+    }
+
+    /// The view of another graph for the members of an old one, by rows of costs over it. The rows are those of the members
+    /// from which some cost to a member isn't the same over the old view's graph; others may be among them, each of a member.
+    ///
+    /// `NoMemory` comes where there was no room for it. Only the members of the given rows are ranked anew: what the others
+    /// reach is shared with the old view.
+    pub fn renew(
+        alloc: Global,
+        old: &Arc<View>,
+        graph: Graph,
+        rows: Vec<(Slot, Row)>,
+    ) -> Result<Arc<View>, NoMemory>
+        requires { AreRenewals old.now.value.edges graph old.now.value.members rows.items }
+        ensures { IfOk result (λ view. view.value ≡ record { edges = graph; members = old.now.value.members }) }
+    {
+        let old: &View = old;
+        let reaches = renewed(
+            alloc,
+            old.members.as_slice(),
+            old.reaches.as_slice(),
+            &graph,
+            rows.as_slice(),
+        )?;
+        let members = Vec::from_slice(alloc, old.members.as_slice())?;
+        Ok(Arc::new(
+            alloc,
+            View {
+                members,
+                graph,
+                reaches,
             },
         )?)
     }
@@ -136,6 +109,17 @@ impl View {
     {
         self.members.as_slice()
     }
+
+    /// The members that a slot reaches, itself among them, by cost and then by BGP Identifier: the nearest first. None where
+    /// the slot is past the last member's.
+    pub fn ranked(&self, from: Slot) -> &[Slot]
+        ensures { IsRanking self.now.members (slot_cost self.now.edges self.now.members from) result.now }
+    {
+        match self.reaches.get(from.0 as usize) {
+            Some(reach) => reach.ranked(),
+            None => &[],
+        }
+    }
 }
 
 impl Costs for View {
@@ -144,8 +128,7 @@ impl Costs for View {
     ghost members = { λ view. view.members };
 
     fn cost(&self, from: Slot, to: Slot) -> Option<u32> {
-        let row = self.rows.get(from.0 as usize)?;
-        let member = self.members.get(to.0 as usize)?;
-        row.cost(member.router)
+        let reach = self.reaches.get(from.0 as usize)?;
+        reach.cost(to)
     }
 }

@@ -2,7 +2,7 @@
 
 ghost use Rattle.std.specs.Prelude.{◌≡◌, ◌<◌, ◌↔◌, length, slice_get, Contains, IsTrue, IsNone, IfNone, IfSome, IsSomeAnd, [], if◌then◌else◌};
 ghost use Rattle.std.specs.List.{list_any};
-ghost use Rattle.rcp_model.specs.Control.{slot_cost};
+ghost use Rattle.rcp_model.specs.RouteServer.{slot_cost};
 ghost use Rattle.rcp_model.specs.Decision.{goes_before, is_lower_pair, is_of, tied, choice};
 
 use crate::candidate::Candidate;

@@ -1,6 +1,8 @@
 //! The decision process of BGP (RFC 4271 section 9.1): which of the routes to a prefix a router chooses.
 //!
-//! The routes that take part are compared step by step, and each step goes over what the one above it left:
+//! A route takes part where it can be used and its next hop can be reached (section 9.1.2): the local AS isn't in its AS_PATH, its
+//! attributes leave room for a prefix in an UPDATE, and there is an interior cost from the choosing router to the one that announced
+//! it. The caller lists these routes alone. Each step then goes over what the one above it left:
 //!
 //! 1. the highest degree of preference, which is LOCAL_PREF (section 9.1.1);
 //! 2. the least number of ASes in AS_PATH (section 9.1.2.2 a);

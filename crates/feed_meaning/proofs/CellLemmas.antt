@@ -11,7 +11,7 @@ use Rattle.rcp_model.specs.Maps.{get_at, same_prefix, is_before, is_among}
 use Rattle.rcp_model.specs.Rising.{IsBelow, IsRising}
 use Rattle.rcp_model.specs.Updates.{Table}
 use Rattle.rcp_model.specs.Cells.{Cell, IsSendable, AreCells, value_after}
-use Rattle.rcp_model.specs.Control.{same_octets}
+use Rattle.rcp_model.specs.RouteServer.{same_octets}
 use Rattle.rcp_base.proofs.MapLemmas.{same_prefix-is}
 use Rattle.rcp_model.proofs.RisingLemmas.{not_among}
 use Rattle.feed_meaning.specs.Work.{cell_of, changed_cells}

@@ -8,7 +8,7 @@ use Rattle.rcp_model.specs.Rising.{IsRising}
 use Rattle.rcp_model.specs.Attributes.{canonical_octets, attributes_in}
 use Rattle.rcp_model.specs.Updates.{Table}
 use Rattle.rcp_model.specs.LinkState.{same_number}
-use Rattle.rcp_model.specs.Control.{Domain, Server, ServerEvent, Up, Down, Change, Links, Work, table_of, is_connected, same_octets, announced_by, announced_prefixes, of_slot, moved, after, after_all}
+use Rattle.rcp_model.specs.RouteServer.{Domain, Server, ServerEvent, Up, Down, Change, Links, Work, table_of, is_connected, same_octets, announced_by, announced_prefixes, of_slot, moved, after, after_all}
 use Rattle.rcp_model.specs.Sessions.{SessionEvent, Announce, Withdraw, Ending, Doing}
 use Rattle.rcp_model.specs.Sessions as session
 use Rattle.rcp_model.specs.Telling.{IsTold}
@@ -44,19 +44,19 @@ settled-all domain [] server good h = h
 settled-all domain (event ∷ events) server good h = settled-all domain events (after domain event server) good.1 (settled-event domain event server good.0 h)
 
 -- the pending prefixes stay rising
-pub rising-event : (domain : Domain) (event : ServerEvent) (server : Server) → IsRising server.touched → IsRising (after domain event server).touched
+pub rising-event : (domain : Domain) (event : ServerEvent) (server : Server) → IsRising server.pending → IsRising (after domain event server).pending
 unfolding after
-rising-event domain (Up slot) server h = rising-include_all (announced_prefixes server.announcements) server.touched h
-rising-event domain (Down slot) server h = rising-include_all (announced_prefixes (of_slot slot server.announcements)) server.touched h
+rising-event domain (Up slot) server h = rising-include_all (announced_prefixes server.announcements) server.pending h
+rising-event domain (Down slot) server h = rising-include_all (announced_prefixes (of_slot slot server.announcements)) server.pending h
 rising-event domain (Change slot p octets) server h =
     elim (cases_Bool (is_connected server slot && not (same_octets (announced_by server.announcements slot p) octets))) [
-      | inl e ↦ rw e (rising-include p server.touched h)
+      | inl e ↦ rw e (rising-include p server.pending h)
       | inr e ↦ rw e h
     ]
-rising-event domain (Links edges) server h = rising-include_all (announced_prefixes (moved domain server.edges edges server.announcements)) server.touched h
-rising-event domain (Work p) server h = rising-filter (λ q. not (same_prefix p q)) server.touched h
+rising-event domain (Links edges) server h = rising-include_all (announced_prefixes (moved domain server.edges edges server.announcements)) server.pending h
+rising-event domain (Work p) server h = rising-filter (λ q. not (same_prefix p q)) server.pending h
 
-pub rising-all : (domain : Domain) (events : List ServerEvent) (server : Server) → IsRising server.touched → IsRising (after_all domain events server).touched
+pub rising-all : (domain : Domain) (events : List ServerEvent) (server : Server) → IsRising server.pending → IsRising (after_all domain events server).pending
 unfolding after_all
 rising-all domain [] server h = h
 rising-all domain (event ∷ events) server h = rising-all domain events (after domain event server) (rising-event domain event server h)

@@ -1,4 +1,4 @@
--- The headline: after each record the octets sent to each connection replay to its table, and tables are the offers where nothing is touched.
+-- The headline: after each record the octets sent to each connection replay to its table, and tables are the offers where nothing is pending.
 use Rattle.std.proofs.Common.{◌≡◌, ℕ, ◌<◌, true, cond, List, [], ◌∷◌, ◌++◌, Option, Some, None, refl, ap, subst, ◌∙◌, append_assoc}
 use Rattle.std.specs.List.{All, AllByRecursion}
 use Rattle.std.proofs.lemmas.List.{append-nil}
@@ -9,7 +9,7 @@ use Rattle.rcp_model.specs.Rosters.{RosterOf}
 use Rattle.rcp_model.specs.Maps.{get_at, same_prefix}
 use Rattle.rcp_model.specs.Updates.{replay}
 use Rattle.rcp_model.specs.LinkState.{same_number}
-use Rattle.rcp_model.specs.Control.{announced_at, offer}
+use Rattle.rcp_model.specs.RouteServer.{announced_at, offer}
 use Rattle.rcp_model.specs.Sessions.{SessionState}
 use Rattle.rcp_model.specs.Telling.{AreOctets}
 use Rattle.feed_meaning.specs.Platform.{Platform, domain_of, fresh, slot_of_session}
@@ -60,7 +60,7 @@ kept-fresh roster = record {
   settled = record {
     offers = λ slot table p is untouched. absurd (none_some is);
     canonical = record { each = λ slot p octets is. absurd (none_some is) };
-    touched = tt;
+    pending = tt;
     announced = tt;
   };
   rising = tt;

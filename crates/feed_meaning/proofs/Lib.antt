@@ -8,4 +8,3 @@ pub mod LinkRecordLemmas
 pub mod WorkLemmas
 pub mod SliceLemmas
 pub mod HeadlineLemmas
-pub mod Computed

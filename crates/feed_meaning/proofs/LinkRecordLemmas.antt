@@ -6,7 +6,7 @@ use Rattle.rcp_base.specs.Feed.{OutRecord}
 use Rattle.rcp_model.specs.LinkState.{LinkState}
 use Rattle.rcp_model.specs.Edges.{edges_of}
 use Rattle.rcp_model.specs.Sessions.{slot_in}
-use Rattle.rcp_model.specs.Control.{Links, after}
+use Rattle.rcp_model.specs.RouteServer.{Links, after}
 use Rattle.feed_meaning.specs.LinkStream.{LinkStream, Reading, Lost, Framed, framed}
 use Rattle.feed_meaning.specs.Platform.{Platform, domain_of}
 use Rattle.feed_meaning.specs.OutRecords.{lost_record, sent_to}

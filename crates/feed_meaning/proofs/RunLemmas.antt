@@ -9,7 +9,7 @@ use Rattle.rcp_model.specs.Maps.{get_at, set_at, same_prefix, is_among}
 use Rattle.rcp_model.specs.Messages.{IsMessage, messages_in}
 use Rattle.rcp_model.specs.Updates.{Table, after_messages, replay}
 use Rattle.rcp_model.specs.Cells.{Cell, Carries, value_after}
-use Rattle.rcp_model.specs.Control.{Domain, Server, Work, table_of, announced_at, offer, after, after_all}
+use Rattle.rcp_model.specs.RouteServer.{Domain, Server, Work, table_of, announced_at, offer, after, after_all}
 use Rattle.rcp_model.proofs.AllLemmas.{all-append}
 use Rattle.rcp_base.proofs.MapLemmas.{get_at-set_at_same, get_at-set_at_other, same_prefix-is, same_prefix-other, prefix_test}
 use Rattle.rcp_model.proofs.ReadingLemmas.{messages_in-concat}

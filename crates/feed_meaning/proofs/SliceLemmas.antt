@@ -9,7 +9,7 @@ use Rattle.rcp_model.specs.Maps.{same_prefix}
 use Rattle.rcp_model.specs.Rising.{IsBelow, IsRising}
 use Rattle.rcp_model.specs.Rosters.{RosterOf}
 use Rattle.rcp_model.specs.Edges.{edges_of}
-use Rattle.rcp_model.specs.Control.{Domain, Server, Links, Work, after}
+use Rattle.rcp_model.specs.RouteServer.{Domain, Server, Links, Work, after}
 use Rattle.feed_meaning.specs.LinkStream.{LinkStream, Reading, Lost}
 use Rattle.feed_meaning.specs.Platform.{Platform, domain_of, fresh}
 use Rattle.feed_meaning.specs.SessionTurns.{Turn, turn_events, after_turn, after_turns, noted, record_turns, turns_act}
@@ -23,7 +23,7 @@ use Rattle.feed_meaning.proofs.EventLemmas.{rising-event, rising-all}
 -- ---- they rise
 
 Rises : Platform → Type 0
-Rises platform = IsRising platform.server.touched
+Rises platform = IsRising platform.server.pending
 
 turns-rise : (turns : List Turn) (platform : Platform) → Rises platform → Rises (after_turns turns platform)
 unfolding Rises
@@ -33,7 +33,7 @@ turns-rise (turn ∷ turns) platform h = turns-rise turns (after_turn turn platf
 links-rise : (platform : Platform) (body : List ℕ) (k : Kind) → Rises platform → Rises (links_act platform body k).after
 unfolding Rises
 links-rise platform body kind.Links h = stream-rises platform.stream where
-  stream-rises : (stream : LinkStream) → IsRising (stream_act stream body platform).after.server.touched
+  stream-rises : (stream : LinkStream) → IsRising (stream_act stream body platform).after.server.pending
   stream-rises (Reading held place) = rising-event (domain_of platform.roster) (Links (edges_of _ platform.roster.links)) platform.server h
   stream-rises Lost = h
 links-rise platform body kind.Time h = rising-event (domain_of platform.roster) (Links (edges_of _ platform.roster.links)) platform.server h
@@ -49,7 +49,7 @@ links-rise platform body kind.Finish h = h
 work-rises : (platform : Platform) (body : List ℕ) (k : Kind) → Rises platform → Rises (work_act platform body k).after
 unfolding Rises
 work-rises platform body kind.Slice h = rising-all (domain_of platform.roster) (work_events (slice platform body)) platform.server h
-work-rises platform body kind.Drain h = rising-all (domain_of platform.roster) (work_events platform.server.touched) platform.server h
+work-rises platform body kind.Drain h = rising-all (domain_of platform.roster) (work_events platform.server.pending) platform.server h
 work-rises platform body kind.Roster h = h
 work-rises platform body kind.Ready h = h
 work-rises platform body kind.Raw h = h
@@ -71,7 +71,7 @@ unfolding platform_after
 run-rises platform [] h = h
 run-rises platform (item ∷ items) h = run-rises (act platform item).after items (act-rises platform item h)
 
-pub pending-rise : (roster : RosterOf) (items : List FeedRecord) → IsRising (platform_after (fresh roster) items).server.touched
+pub pending-rise : (roster : RosterOf) (items : List FeedRecord) → IsRising (platform_after (fresh roster) items).server.pending
 unfolding Rises
 pending-rise roster items = run-rises (fresh roster) items tt
 
@@ -107,12 +107,12 @@ first-gone test (p ∷ ps) least others rising is =
           ]
     ]
 
-pub slice-some : (domain : Domain) (shards shard count : ℕ) (server : Server) (least : IpPrefix) (others : List IpPrefix) → IsRising server.touched
+pub slice-some : (domain : Domain) (shards shard count : ℕ) (server : Server) (least : IpPrefix) (others : List IpPrefix) → IsRising server.pending
     → pending_in shards shard server ≡ least ∷ others
     → take (suc count) (pending_in shards shard server) ≡ least ∷ take count (pending_in shards shard (after domain (Work least) server))
 unfolding after
 slice-some domain shards shard count server least others rising is =
-    ap (take (suc count)) is ∙ ap (λ (l : List IpPrefix). least ∷ take count l) (sym (first-gone _ server.touched least others rising is))
+    ap (take (suc count)) is ∙ ap (λ (l : List IpPrefix). least ∷ take count l) (sym (first-gone _ server.pending least others rising is))
 
 pub slice-none : (shards shard count : ℕ) (server : Server) → pending_in shards shard server ≡ [] → take count (pending_in shards shard server) ≡ []
 slice-none shards shard zero server is = refl

@@ -11,7 +11,7 @@ use Rattle.rcp_model.specs.Rising.{IsRising}
 use Rattle.rcp_model.specs.Messages.{IsMessage}
 use Rattle.rcp_model.specs.Updates.{Table, Sections, sections_of, after_message, after_messages}
 use Rattle.rcp_model.specs.LinkState.{same_number}
-use Rattle.rcp_model.specs.Control.{Server, table_of, after_all}
+use Rattle.rcp_model.specs.RouteServer.{Server, table_of, after_all}
 use Rattle.rcp_model.specs.Sessions.{Ending, Phase, OpenSent, Claiming, OpenConfirm, Established, Closed, SessionState, is_closed, seat_of, slot_in}
 use Rattle.rcp_model.specs.Telling.{IsTold, AreOctets}
 use Rattle.feed_meaning.specs.Platform.{Connections, Platform, domain_of}
@@ -100,7 +100,7 @@ Tells octets server (Some slot) = (table : Table) × (table_of server slot ≡ S
 -- No number above the last was begun.
 pub record Kept (platform : Platform) (outs : List OutRecord) (last : ℕ) : Type 0 where
   pub settled : Settled (domain_of platform.roster) platform.server
-  pub rising : IsRising platform.server.touched
+  pub rising : IsRising platform.server.pending
   pub distinct : Distinct platform.connections
   pub seats : (m n slot : ℕ) (s t : SessionState) → get_at same_number m platform.connections ≡ Some s → get_at same_number n platform.connections ≡ Some t
       → seat_of s.phase ≡ Some slot → seat_of t.phase ≡ Some slot → m ≡ n

@@ -11,7 +11,7 @@ use Rattle.rcp_model.specs.Maps.{get_at, same_prefix, is_among}
 use Rattle.rcp_model.specs.Rising.{IsRising}
 use Rattle.rcp_model.specs.Updates.{Table}
 use Rattle.rcp_model.specs.LinkState.{same_number}
-use Rattle.rcp_model.specs.Control.{Server, announced_at, offer}
+use Rattle.rcp_model.specs.RouteServer.{Server, announced_at, offer}
 use Rattle.rcp_model.specs.Sessions.{SessionState, slot_in}
 use Rattle.feed_meaning.specs.Platform.{Connections, Platform, domain_of}
 use Rattle.feed_meaning.specs.OutRecords.{messages_to, summary, sent_to}
@@ -141,15 +141,15 @@ module _ (platform : Platform) (outs : List OutRecord) (last : ℕ) (body : List
   kept-slice =
       let pending = pending_in platform.roster.shards (shard_in body) platform.server in
       kept-work platform outs last (slice platform body)
-      (rising-take (count_in body) pending (rising-filter _ platform.server.touched h.rising))
-      (take-keeps IsPrefix (count_in body) pending (filter-keeps IsPrefix _ platform.server.touched h.settled.touched)) h
+      (rising-take (count_in body) pending (rising-filter _ platform.server.pending h.rising))
+      (take-keeps IsPrefix (count_in body) pending (filter-keeps IsPrefix _ platform.server.pending h.settled.pending)) h
 
-  kept-drain : Kept (with_summary (work_on platform.server.touched platform)).after (outs ++ (with_summary (work_on platform.server.touched platform)).out) last
+  kept-drain : Kept (with_summary (work_on platform.server.pending platform)).after (outs ++ (with_summary (work_on platform.server.pending platform)).out) last
   kept-drain =
-      let worked = work_on platform.server.touched platform in
+      let worked = work_on platform.server.pending platform in
       rw (← append_assoc outs worked.out (summary worked.after.server worked.after.updates ∷ []))
       (kept-silent worked.after (outs ++ worked.out) (summary worked.after.server worked.after.updates ∷ []) last (λ n. refl)
-      (kept-work platform outs last platform.server.touched h.rising h.settled.touched h))
+      (kept-work platform outs last platform.server.pending h.rising h.settled.pending h))
 
   -- where there is none
   kept-still : Kept platform (outs ++ []) last

@@ -6,4 +6,3 @@ pub mod LinkRecords
 pub mod Work
 pub mod Runs
 pub mod WholeFeeds
-pub mod LinkStateFeeds

@@ -5,7 +5,7 @@ use Rattle.rcp_base.specs.declared.kinds.Kind.TheVariants as kind
 use Rattle.rcp_model.specs.LinkState.{LinkState, aged}
 use Rattle.rcp_model.specs.LinkStateUpdates.{after_packets}
 use Rattle.rcp_model.specs.Edges.{edges_of}
-use Rattle.rcp_model.specs.Control.{Links, after}
+use Rattle.rcp_model.specs.RouteServer.{Links, after}
 use Rattle.feed_meaning.specs.LinkStream.{LinkStream, Reading, Lost, Framed, framed}
 use Rattle.feed_meaning.specs.Platform.{Platform, domain_of, Acted, nothing_done}
 use Rattle.feed_meaning.specs.OutRecords.{lost_record}

@@ -4,7 +4,7 @@ use Rattle.std.specs.Int.{w64, to_be_bytes}
 use Rattle.rcp_base.specs.Feed.{OutRecord}
 use Rattle.rcp_model.specs.Maps.{include_all}
 use Rattle.rcp_model.specs.Sessions.{Reason, Faulted, Received, Ended, SeatTaken, Ending}
-use Rattle.rcp_model.specs.Control.{Server, announced_prefixes}
+use Rattle.rcp_model.specs.RouteServer.{Server, announced_prefixes}
 
 -- the kinds of the records, by their letters
 abbrev pub MESSAGE : ℕ

@@ -6,7 +6,7 @@ use Rattle.rcp_model.specs.Maps.{get_at}
 use Rattle.rcp_model.specs.LinkState.{LinkState, same_number}
 use Rattle.rcp_model.specs.Edges.{rising_edges}
 use Rattle.rcp_model.specs.Sessions.{SessionState, slot_in}
-use Rattle.rcp_model.specs.Control.{Domain, Server}
+use Rattle.rcp_model.specs.RouteServer.{Domain, Server}
 use Rattle.feed_meaning.specs.LinkStream.{LinkStream, Reading}
 
 -- The sessions of the connections that are open, by rising number
@@ -35,7 +35,7 @@ fresh roster = record {
   moment = 0;
   stream = Reading [] 0;
   link_state = record { routers = [] };
-  server = record { tables = []; announcements = []; touched = []; edges = rising_edges roster.links };
+  server = record { tables = []; announcements = []; pending = []; edges = rising_edges roster.links };
   updates = 0;
 }
 

@@ -4,7 +4,7 @@ use Rattle.rcp_base.specs.IpPrefix.{IpPrefix}
 use Rattle.rcp_base.specs.Feed.{FeedRecord, OutRecord, begins}
 use Rattle.rcp_model.specs.Rosters.{RosterOf}
 use Rattle.rcp_model.specs.Updates.{replay}
-use Rattle.rcp_model.specs.Control.{is_touched, announced_at, offer}
+use Rattle.rcp_model.specs.RouteServer.{is_pending, announced_at, offer}
 use Rattle.feed_meaning.specs.Platform.{Platform, domain_of, fresh, slot_on, Acted}
 use Rattle.feed_meaning.specs.OutRecords.{sent_to}
 use Rattle.feed_meaning.specs.SessionTurns.{turns_act}
@@ -41,6 +41,6 @@ Headline roster items =
     let platform = platform_after (fresh roster) items in
     let outs = all_output (fresh roster) items in
     (number slot : ℕ) (p : IpPrefix) → slot_on platform.connections number ≡ Some slot
-    → is_touched platform.server p ≡ false
+    → is_pending platform.server p ≡ false
     → cell_of (Some (replay (sent_to number outs))) p
     ≡ offer (domain_of roster) (announced_at platform.server.announcements p) platform.server.edges slot

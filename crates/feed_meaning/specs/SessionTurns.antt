@@ -10,7 +10,7 @@ use Rattle.rcp_model.specs.Maps.{get_at, set_at}
 use Rattle.rcp_model.specs.LinkState.{same_number}
 use Rattle.rcp_model.specs.Sessions.{Ending, SessionEvent, Announce, Withdraw, Doing, seat_of, SessionState, Answer, Input, Octets, Seat, Moment, End, answer, begun, begun_established, is_closed, seat_taken, stepped, then_also}
 use Rattle.rcp_model.specs.Sessions as session
-use Rattle.rcp_model.specs.Control.{ServerEvent, Up, Down, Change, after_all}
+use Rattle.rcp_model.specs.RouteServer.{ServerEvent, Up, Down, Change, after_all}
 use Rattle.feed_meaning.specs.Platform.{Connections, Platform, domain_of, Acted}
 use Rattle.feed_meaning.specs.OutRecords.{messages_to, end_record}
 

@@ -10,7 +10,7 @@ use Rattle.rcp_model.specs.Maps.{get_at, same_prefix}
 use Rattle.rcp_model.specs.Updates.{Table, update_octets}
 use Rattle.rcp_model.specs.Cells.{Cell}
 use Rattle.rcp_model.specs.Sessions.{slot_in}
-use Rattle.rcp_model.specs.Control.{Server, ServerEvent, Work, after_all, table_of, same_octets}
+use Rattle.rcp_model.specs.RouteServer.{Server, ServerEvent, Work, after_all, table_of, same_octets}
 use Rattle.feed_meaning.specs.Platform.{Connections, Platform, domain_of, Acted, nothing_done}
 use Rattle.feed_meaning.specs.OutRecords.{MOST, messages_to, summary}
 
@@ -25,7 +25,7 @@ count_in body = from_be_bytes w32 (drop 2 body)
 
 -- the pending prefixes of a shard, rising
 abbrev pub pending_in : ℕ → ℕ → Server → List IpPrefix
-pending_in shards shard server = filter (λ p. shard_of_prefix p shards == shard) server.touched
+pending_in shards shard server = filter (λ p. shard_of_prefix p shards == shard) server.pending
 
 -- the least of them, so many at most
 abbrev pub slice : Platform → List ℕ → List IpPrefix
@@ -90,7 +90,7 @@ with_summary acted = record acted { out = acted.out ++ summary acted.after.serve
 
 -- all pending prefixes are worked, and a summary follows
 abbrev pub drain_act : Platform → Acted
-drain_act platform = with_summary (work_on platform.server.touched platform)
+drain_act platform = with_summary (work_on platform.server.pending platform)
 
 -- A slice works the least pending prefixes of a shard, a drain all pending prefixes.
 abbrev pub work_act : Platform → List ℕ → Kind → Acted

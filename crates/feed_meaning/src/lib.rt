@@ -15,8 +15,8 @@
 //!
 //! A caller may rely on this: the definitions are functions that compute. `offers` has the headline over them for all lists
 //! of records: what was sent to a connected router, replayed, is what it is offered. `slices` says that a slice works the
-//! least pending prefixes, one after another. The other modules are cases whose outcome is known. There is no code here:
-//! each public function is a law with an empty body.
+//! least pending prefixes, one after another. There is no code here: each public function is a law with an empty body. Cases
+//! whose outcome is known stand in `meaning_cases`.
 //!
 //! The rule by which changed cells become UPDATEs is `updates_for` of `Work`. The headline rests on it through one law
 //! alone, `carries_all` (`proofs/CarryLemmas.antt`).
@@ -27,8 +27,5 @@
 //! ```
 #![tactic(auto)]
 
-pub mod feeds;
-pub mod instances;
-pub mod link_state_feeds;
 pub mod offers;
 pub mod slices;

@@ -7,7 +7,7 @@ ghost use Rattle.rcp_model.specs.Rosters.{RosterOf};
 ghost use Rattle.feed_meaning.specs.Runs.{NumbersRise, Headline};
 
 /// After every list of records in which the numbers of connections rise, for each connected router and each prefix that
-/// isn't touched, the octets sent to the router so far, replayed, give at that prefix exactly what it is offered.
+/// isn't pending, the octets sent to the router so far, replayed, give at that prefix exactly what it is offered.
 pub fn octets_sent_give_the_offer()
     ensures { (roster : RosterOf) (items : List FeedRecord) → AllByRecursion (λ item. All (λ o. o < 256) item.body) items
         → NumbersRise 0 items → Headline roster items }

@@ -94,17 +94,17 @@ lsa_at-owner octets links s e f =
 pub lsa_at-ok : (octets : List ℕ) (links : List RouterLink) → IsSummed octets →
     links_in (link_count octets) (drop 24 octets) ≡ Some links → link_state_id octets ≡ advertising_router octets →
     lsa_at octets ≡ Ok (record {
-      router = advertising_router octets;
+      key = advertising_router octets;
       header = record { sequence = sequence_field octets; checksum = checksum_field octets; age = age_field octets };
-      links = links;
+      content = links;
     })
 lsa_at-ok octets links s e f =
     lsa_at-judged octets
     ∙ judged-ok _ _ _ _ _ (le-ltb _ _ s.long) (summed_well _ _ s.sums s.checksum) (ap is_none e) (ap not (eq-eqb _ _ f))
     ∙ ap (λ found. let lsa : RouterLsa = record {
-      router = advertising_router octets;
+      key = advertising_router octets;
       header = record { sequence = sequence_field octets; checksum = checksum_field octets; age = age_field octets };
-      links = unwrap_or found [];
+      content = unwrap_or found [];
     } in Ok lsa) e
 
 -- what the reader of the links refuses is refused of the LSA
@@ -162,13 +162,13 @@ Gives-err {Y = Y} view (Err f) e said h refused = let P : LsaRefusal → Type 0 
 -- an LSA from equal parts, its sequence number out of 32 bits
 pub lsa_from_parts : (router router' age age' checksum checksum' bits bits' : ℕ) (sequence : ℤ) (links : List RouterLink) →
     router ≡ router' → age ≡ age' → checksum ≡ checksum' → bits ≡ bits' → bits < 2 ^ 32 → sequence ≡ cast_signed w32 bits →
-    (let a : RouterLsa = record { router = router'; header = record { sequence = cast_signed w32 bits'; checksum = checksum'; age = age' }; links = links } in
-    let b : RouterLsa = record { router = router; header = record { sequence = cast_signed w32 (cast_unsigned w32 sequence); checksum = checksum; age = age }; links = links } in
+    (let a : RouterLsa = record { key = router'; header = record { sequence = cast_signed w32 bits'; checksum = checksum'; age = age' }; content = links } in
+    let b : RouterLsa = record { key = router; header = record { sequence = cast_signed w32 (cast_unsigned w32 sequence); checksum = checksum; age = age }; content = links } in
     let said : Result RouterLsa LsaFault = Ok a in said ≡ Ok b)
 lsa_from_parts router router' age age' checksum checksum' bits bits' sequence links e f g h fits q =
     let same : cast_signed w32 bits' ≡ cast_signed w32 (cast_unsigned w32 sequence) =
     ap (cast_signed w32) (sym h) ∙ ap (cast_signed w32) (sym (of_z-to_z w32 bits fits)) ∙ ap (λ z. cast_signed w32 (cast_unsigned w32 z)) (sym q) in
-    ap (λ n. let a : RouterLsa = record { router = n; header = record { sequence = cast_signed w32 bits'; checksum = checksum'; age = age' }; links = links } in Ok a) (sym e)
-    ∙ ap (λ n. let a : RouterLsa = record { router = router; header = record { sequence = cast_signed w32 bits'; checksum = checksum'; age = n }; links = links } in Ok a) (sym f)
-    ∙ ap (λ n. let a : RouterLsa = record { router = router; header = record { sequence = cast_signed w32 bits'; checksum = n; age = age }; links = links } in Ok a) (sym g)
-    ∙ ap (λ z. let a : RouterLsa = record { router = router; header = record { sequence = z; checksum = checksum; age = age }; links = links } in Ok a) same
+    ap (λ n. let a : RouterLsa = record { key = n; header = record { sequence = cast_signed w32 bits'; checksum = checksum'; age = age' }; content = links } in Ok a) (sym e)
+    ∙ ap (λ n. let a : RouterLsa = record { key = router; header = record { sequence = cast_signed w32 bits'; checksum = checksum'; age = n }; content = links } in Ok a) (sym f)
+    ∙ ap (λ n. let a : RouterLsa = record { key = router; header = record { sequence = cast_signed w32 bits'; checksum = n; age = age }; content = links } in Ok a) (sym g)
+    ∙ ap (λ z. let a : RouterLsa = record { key = router; header = record { sequence = z; checksum = checksum; age = age }; content = links } in Ok a) same

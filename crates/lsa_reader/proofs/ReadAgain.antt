@@ -50,16 +50,16 @@ lsa_at-octets : (high low : ℕ) (lsa : RouterLsa) → FitsLsa lsa → 0 < high 
     lsa_at (octets_with high low lsa) ≡ Ok (with_checksum (checksum_field (octets_with high low lsa)) lsa)
 lsa_at-octets high low lsa fits some sums =
     let octets = octets_with high low lsa in
-    let few : length lsa.links < 2 ^ 16 = omega (arith, fits.few) in
-    let links : links_in (link_count octets) (drop 24 octets) ≡ Some lsa.links =
-    ap (λ n. links_in n (flat_map link_octets lsa.links)) (from_be_bytes-to_be_bytes_2 (length lsa.links) few) ∙ links_in-again lsa.links fits.links in
+    let few : length lsa.content < 2 ^ 16 = omega (arith, fits.few) in
+    let links : links_in (link_count octets) (drop 24 octets) ≡ Some lsa.content =
+    ap (λ n. links_in n (flat_map link_octets lsa.content)) (from_be_bytes-to_be_bytes_2 (length lsa.content) few) ∙ links_in-again lsa.content fits.content in
     let checksum = checksum_field octets in
-    lsa_at-ok octets lsa.links (IsSummed-octets high low lsa some sums) links refl
-    ∙ ap (λ n. let l : RouterLsa = record { router = n; header = record { sequence = sequence_field octets; checksum = checksum; age = age_field octets }; links = lsa.links } in Ok l)
-    (from_be_bytes-to_be_bytes_4 lsa.router fits.router)
-    ∙ ap (λ z. let l : RouterLsa = record { router = lsa.router; header = record { sequence = z; checksum = checksum; age = age_field octets }; links = lsa.links } in Ok l)
+    lsa_at-ok octets lsa.content (IsSummed-octets high low lsa some sums) links refl
+    ∙ ap (λ n. let l : RouterLsa = record { key = n; header = record { sequence = sequence_field octets; checksum = checksum; age = age_field octets }; content = lsa.content } in Ok l)
+    (from_be_bytes-to_be_bytes_4 lsa.key fits.key)
+    ∙ ap (λ z. let l : RouterLsa = record { key = lsa.key; header = record { sequence = z; checksum = checksum; age = age_field octets }; content = lsa.content } in Ok l)
     (sequence-again lsa.header.sequence fits.sequence)
-    ∙ ap (λ n. let l : RouterLsa = record { router = lsa.router; header = record { sequence = lsa.header.sequence; checksum = checksum; age = n }; links = lsa.links } in Ok l)
+    ∙ ap (λ n. let l : RouterLsa = record { key = lsa.key; header = record { sequence = lsa.header.sequence; checksum = checksum; age = n }; content = lsa.content } in Ok l)
     (from_be_bytes-to_be_bytes_2 lsa.header.age fits.age)
 
 pub lsa_at-spelled : (lsa : RouterLsa) (octets : List ℕ) → FitsLsa lsa → Spells lsa octets →

@@ -14,11 +14,11 @@ use Rattle.lsa_reader.proofs.Sums.{sum-append, sum-cons, weighted-append}
 -- the summed octets before the checksum, and those behind it
 abbrev before_checksum : RouterLsa → List ℕ
 before_checksum lsa =
-    (2 ∷ 1 ∷ []) ++ to_be_bytes w32 lsa.router ++ to_be_bytes w32 lsa.router ++ to_be_bytes w32 (cast_unsigned w32 lsa.header.sequence)
+    (2 ∷ 1 ∷ []) ++ to_be_bytes w32 lsa.key ++ to_be_bytes w32 lsa.key ++ to_be_bytes w32 (cast_unsigned w32 lsa.header.sequence)
 
 abbrev behind_checksum : RouterLsa → List ℕ
 behind_checksum lsa =
-    to_be_bytes w16 (written_len lsa) ++ (0 ∷ 0 ∷ []) ++ to_be_bytes w16 (length lsa.links) ++ flat_map link_octets lsa.links
+    to_be_bytes w16 (written_len lsa) ++ (0 ∷ 0 ∷ []) ++ to_be_bytes w16 (length lsa.content) ++ flat_map link_octets lsa.content
 
 summed_parts : (high low : ℕ) (lsa : RouterLsa) → summed (octets_with high low lsa) ≡ before_checksum lsa ++ (high ∷ low ∷ behind_checksum lsa)
 summed_parts high low lsa = refl

@@ -51,7 +51,7 @@ impl Model for Lsa {
 
     ghost Value = { RouterLsa };
 
-    ghost view = { λ l. record { router = l.router; header = record { sequence = l.sequence; checksum = l.checksum; age = l.age }; links = l.links.items } };
+    ghost view = { λ l. record { key = l.router; header = record { sequence = l.sequence; checksum = l.checksum; age = l.age }; content = l.links.items } };
 }
 
 /// Why no LSA was read.

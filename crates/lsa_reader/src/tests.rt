@@ -14,7 +14,7 @@ const WITH_TOS: [u8; 40] = [
 ];
 
 fn sample(alloc: Global, sequence: i32, kind: u8) -> Result<Lsa, Fail>
-    ensures { IfOk result (λ lsa. (lsa.header.age ≤ 3600) × (length lsa.links ≤ 5459)) }
+    ensures { IfOk result (λ lsa. (lsa.header.age ≤ 3600) × (length lsa.content ≤ 5459)) }
 {
     let link = LsaLink {
         id: 0x0a00_0002,

@@ -16,7 +16,7 @@ const OPTIONS: u8 = 2;
 /// checksum is unread. None where `out` is too short.
 pub fn write(lsa: &Lsa, out: &mut [u8]) -> Option<usize>
     requires age { lsa.now.header.age ≤ 3600 }
-    requires few { length lsa.now.links ≤ 5459 }
+    requires few { length lsa.now.content ≤ 5459 }
     ensures none { IsNone result ↔ (length out.old < written_len lsa.now) }
     ensures len { IfSome result (λ len. len ≡ written_len lsa.now) }
     ensures spelled { IfSome result (λ len. Spells lsa.now (take len out.new)) }
@@ -35,7 +35,7 @@ pub fn write(lsa: &Lsa, out: &mut [u8]) -> Option<usize>
 /// Writes the LSA to octets that have just its length.
 fn fill(lsa: &Lsa, out: &mut [u8])
     requires exact { length out.old ≡ written_len lsa.now }
-    requires few { length lsa.now.links ≤ 5459 }
+    requires few { length lsa.now.content ≤ 5459 }
     ensures { Spells lsa.now out.new }
 {
     put(out, 0, &header_octets(lsa));
@@ -60,7 +60,7 @@ fn put(out: &mut [u8], place: usize, octets: &[u8])
 
 /// What stands before the links, with 0 in the place of the checksum.
 fn header_octets(lsa: &Lsa) -> [u8; 24]
-    requires { length lsa.now.links ≤ 5459 }
+    requires { length lsa.now.content ≤ 5459 }
     ensures { result ≡ header_of 0 0 lsa.now }
 {
     let count = lsa.links.len();

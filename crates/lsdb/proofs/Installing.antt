@@ -7,7 +7,7 @@ use Rattle.std.proofs.lemmas.Bool.{false≢true, leb-false}
 use Rattle.std.specs.Prelude.{⊤}
 use Rattle.std.proofs.lemmas.Map.Entries.{option_filter}
 use Rattle.rcp_base.specs.Maps.{get_at, put_at, without}
-use Rattle.rcp_model.specs.LinkState.{RouterLsa, Kept, LinkState, same_number, header_at, capped, against, Installation, Newer, Same, Older, Flushed, Dropped, installation, installed, aged}
+use Rattle.rcp_model.specs.LinkState.{RouterLsa, Kept, LinkState, same_number, header_at, capped, against, Installation, Newer, Same, Older, Flushed, Dropped, answer_to, kept_after, installation, installed, aged}
 use Rattle.rcp_base.proofs.MapLemmas.{get_at-put_at_same, get_at-put_at_other, get_at-without_passed, get_at-without_left}
 use Rattle.lsdb.specs.Databases.{IsKept, IsOnce, Changes, Holds}
 use Rattle.lsdb.proofs.MapOrder.{number_test, lookup_is, is_eq-number, once-rising, once-put, once-filter, get-filter, same-length, filter-less}
@@ -19,14 +19,14 @@ pub changed : (key : ℕ) (value : Option Kept) (old new : List (ℕ × Kept))
     → (k : ℕ) → get_at same_number k new ≡ cond (key == k) value (get_at same_number k old)
 changed key value old new updates k = sym (lookup_is k new) ∙ updates k ∙ rw (is_eq-number key k, lookup_is k old) refl
 
-own-changed : (key : ℕ) (value : Option Kept) (old new : List (ℕ × Kept)) → Changes key value old new → IfSome value (λ kept. kept.lsa.router ≡ key)
-    → ((k : ℕ) → IfSome (get_at same_number k old) (λ kept. kept.lsa.router ≡ k)) → (k : ℕ) → IfSome (get_at same_number k new) (λ kept. kept.lsa.router ≡ k)
+own-changed : (key : ℕ) (value : Option Kept) (old new : List (ℕ × Kept)) → Changes key value old new → IfSome value (λ kept. kept.lsa.key ≡ key)
+    → ((k : ℕ) → IfSome (get_at same_number k old) (λ kept. kept.lsa.key ≡ k)) → (k : ℕ) → IfSome (get_at same_number k new) (λ kept. kept.lsa.key ≡ k)
 own-changed key value old new change is own k = rw (change.at k) (at_test (key == k) refl) where
-  at_test : (t : Bool) → (key == k) ≡ t → IfSome (cond t value (get_at same_number k old)) (λ kept. kept.lsa.router ≡ k)
-  at_test true same = subst (λ j. IfSome value (λ kept. kept.lsa.router ≡ j)) (eqb-true key k same) is
+  at_test : (t : Bool) → (key == k) ≡ t → IfSome (cond t value (get_at same_number k old)) (λ kept. kept.lsa.key ≡ k)
+  at_test true same = subst (λ j. IfSome value (λ kept. kept.lsa.key ≡ j)) (eqb-true key k same) is
   at_test false other = own k
 
-pub kept-changed : (key : ℕ) (value : Option Kept) (old new : List (ℕ × Kept)) → Changes key value old new → IfSome value (λ kept. kept.lsa.router ≡ key) → IsKept old
+pub kept-changed : (key : ℕ) (value : Option Kept) (old new : List (ℕ × Kept)) → Changes key value old new → IfSome value (λ kept. kept.lsa.key ≡ key) → IsKept old
     → length old + cond (is_some value) 1 0 ≤ 2048 + cond (is_some (get_at same_number key old)) 1 0 → IsKept new
 kept-changed key value old new change is kept place = record { rising = change.rising; own = own-changed key value old new change is kept.own; few = omega (arith, change.count, place) }
 
@@ -34,10 +34,10 @@ pub kept-removed : (key : ℕ) (old new : List (ℕ × Kept)) → Changes key No
 kept-removed key old new change kept = kept-changed key None old new change tt kept (omega (arith, kept.few))
 
 -- there is a place for an instance that is put in
-pub newer-place : (now : ℕ) (lsa : RouterLsa) (routers : List (ℕ × Kept)) → IsKept routers → Newer ≡ installation now lsa (state_of routers) → length routers + 1 ≤ 2048 + cond (is_some (get_at same_number lsa.router routers)) 1 0
-unfolding installation
-newer-place now lsa routers kept newer = by_found (get_at same_number lsa.router routers) refl where
-  by_found : (found : Option Kept) → get_at same_number lsa.router routers ≡ found → length routers + 1 ≤ 2048 + cond (is_some found) 1 0
+pub newer-place : (now : ℕ) (lsa : RouterLsa) (routers : List (ℕ × Kept)) → IsKept routers → Newer ≡ installation now lsa (state_of routers) → length routers + 1 ≤ 2048 + cond (is_some (get_at same_number lsa.key routers)) 1 0
+unfolding installation answer_to
+newer-place now lsa routers kept newer = by_found (get_at same_number lsa.key routers) refl where
+  by_found : (found : Option Kept) → get_at same_number lsa.key routers ≡ found → length routers + 1 ≤ 2048 + cond (is_some found) 1 0
   by_found (Some instance) is = omega (arith, kept.few)
   by_found None is = at_tests (leb 3600 lsa.header.age) (leb 2048 (length routers)) refl (newer ∙ rw is refl) where
     at_tests : (old full : Bool) → leb 2048 (length routers) ≡ full → Newer ≡ cond old Flushed (cond full Dropped Newer) → length routers + 1 ≤ 2048
@@ -59,44 +59,46 @@ answer_by now lsa found count = elim found [
 ]
 
 abbrev pub state_after : ℕ → RouterLsa → LinkState → Installation → LinkState
-state_after now lsa state answer = elim answer [
-  | Newer ↦ record { routers = put_at same_number lsa.router (record { lsa = lsa; since = now }) state.routers }
-  | Flushed ↦ record { routers = without (same_number lsa.router) state.routers }
-  | Same ↦ state
-  | Older ↦ state
-  | Dropped ↦ state
-]
+state_after now lsa state answer = record {
+  routers = elim answer [
+    | Newer ↦ put_at same_number lsa.key (record { lsa = lsa; since = now }) state.routers
+    | Flushed ↦ without (same_number lsa.key) state.routers
+    | Same ↦ state.routers
+    | Older ↦ state.routers
+    | Dropped ↦ state.routers
+  ];
+}
 
 -- what becomes of an LSA is the same for each link state that is held
 pub same-installation : (now : ℕ) (lsa : RouterLsa) (routers : List (ℕ × Kept)) (state : LinkState) → IsKept routers → Holds (state_of routers) state → installation now lsa (state_of routers) ≡ installation now lsa state
-unfolding installation
+unfolding installation answer_to
 same-installation now lsa routers state kept holds =
     let count : length routers ≡ length state.routers = same-length routers state.routers (once-rising routers kept.rising) holds.once holds.same in
-    ap₂ (answer_by now lsa) (holds.same lsa.router) count
+    ap₂ (answer_by now lsa) (holds.same lsa.key) count
 
-module _ (now : ℕ) (lsa : RouterLsa) (key : ℕ) (old new : List (ℕ × Kept)) (state : LinkState) (kept : IsKept old) (holds : Holds (state_of old) state) (is : key ≡ lsa.router) where
-  at_key : (value : Option Kept) → Changes key value old new → (k : ℕ) → get_at same_number k new ≡ cond (lsa.router == k) value (get_at same_number k state.routers)
+module _ (now : ℕ) (lsa : RouterLsa) (key : ℕ) (old new : List (ℕ × Kept)) (state : LinkState) (kept : IsKept old) (holds : Holds (state_of old) state) (is : key ≡ lsa.key) where
+  at_key : (value : Option Kept) → Changes key value old new → (k : ℕ) → get_at same_number k new ≡ cond (lsa.key == k) value (get_at same_number k state.routers)
   at_key value change k = change.at k ∙ rw (is, holds.same k) refl
 
   pub holds-newer : Changes key (Some (record { lsa = lsa; since = now })) old new → Newer ≡ installation now lsa (state_of old) → Holds (state_of new) (installed now lsa state)
-  unfolding installed
+  unfolding installation installed kept_after
   holds-newer change newer =
       let answer : installation now lsa state ≡ Newer = sym (same-installation now lsa old state kept holds) ∙ sym newer in
       let value : Kept = record { lsa = lsa; since = now } in
-      subst (λ a. Holds (state_of new) (state_after now lsa state a)) (sym answer) (record { same = λ k. at_key (Some value) change k ∙ put k value (lsa.router == k) refl; once = once-put lsa.router value state.routers holds.once }) where
-        put : (k : ℕ) (value : Kept) (t : Bool) → (lsa.router == k) ≡ t → cond t (Some value) (get_at same_number k state.routers) ≡ get_at same_number k (put_at same_number lsa.router value state.routers)
+      subst (λ a. Holds (state_of new) (state_after now lsa state a)) (sym answer) (record { same = λ k. at_key (Some value) change k ∙ put k value (lsa.key == k) refl; once = once-put lsa.key value state.routers holds.once }) where
+        put : (k : ℕ) (value : Kept) (t : Bool) → (lsa.key == k) ≡ t → cond t (Some value) (get_at same_number k state.routers) ≡ get_at same_number k (put_at same_number lsa.key value state.routers)
         put k value true same =
-            sym (subst (λ j. get_at same_number j (put_at same_number lsa.router value state.routers) ≡ Some value) (eqb-true lsa.router k same) (get_at-put_at_same same_number number_test lsa.router value state.routers))
-        put k value false other = sym (get_at-put_at_other same_number number_test lsa.router k value state.routers (turned lsa.router k other))
+            sym (subst (λ j. get_at same_number j (put_at same_number lsa.key value state.routers) ≡ Some value) (eqb-true lsa.key k same) (get_at-put_at_same same_number number_test lsa.key value state.routers))
+        put k value false other = sym (get_at-put_at_other same_number number_test lsa.key k value state.routers (turned lsa.key k other))
 
   pub holds-flushed : Changes key None old new → Flushed ≡ installation now lsa (state_of old) → Holds (state_of new) (installed now lsa state)
-  unfolding installed
+  unfolding installation installed kept_after
   holds-flushed change flushed =
       let answer : installation now lsa state ≡ Flushed = sym (same-installation now lsa old state kept holds) ∙ sym flushed in
-      subst (λ a. Holds (state_of new) (state_after now lsa state a)) (sym answer) (record { same = λ k. at_key None change k ∙ removed k (lsa.router == k) refl; once = once-filter (λ entry. not (same_number lsa.router entry.0)) state.routers holds.once }) where
-        removed : (k : ℕ) (t : Bool) → (lsa.router == k) ≡ t → cond t None (get_at same_number k state.routers) ≡ get_at same_number k (without (same_number lsa.router) state.routers)
-        removed k true same = sym (get_at-without_passed same_number number_test (same_number lsa.router) k state.routers same)
-        removed k false other = sym (get_at-without_left same_number number_test (same_number lsa.router) k state.routers other)
+      subst (λ a. Holds (state_of new) (state_after now lsa state a)) (sym answer) (record { same = λ k. at_key None change k ∙ removed k (lsa.key == k) refl; once = once-filter (λ entry. not (same_number lsa.key entry.0)) state.routers holds.once }) where
+        removed : (k : ℕ) (t : Bool) → (lsa.key == k) ≡ t → cond t None (get_at same_number k state.routers) ≡ get_at same_number k (without (same_number lsa.key) state.routers)
+        removed k true same = sym (get_at-without_passed same_number number_test (same_number lsa.key) k state.routers same)
+        removed k false other = sym (get_at-without_left same_number number_test (same_number lsa.key) k state.routers other)
 
 -- an answer that changes nothing
 abbrev pub ChangesNothing : Installation → Type 0
@@ -104,7 +106,7 @@ ChangesNothing answer = elim answer [ Newer ↦ ⊥ | Flushed ↦ ⊥ | Same ↦
 
 pub holds-still : (now : ℕ) (lsa : RouterLsa) (routers : List (ℕ × Kept)) (state : LinkState) → IsKept routers → Holds (state_of routers) state → (answer : Installation) → ChangesNothing answer
     → answer ≡ installation now lsa (state_of routers) → Holds (state_of routers) (installed now lsa state)
-unfolding installed
+unfolding installation installed kept_after
 holds-still now lsa routers state kept holds answer still is = by_answer answer still (sym (same-installation now lsa routers state kept holds) ∙ sym is) where
   by_answer : (answer : Installation) → ChangesNothing answer → installation now lsa state ≡ answer → Holds (state_of routers) (installed now lsa state)
   by_answer Newer still is = absurd still
@@ -144,10 +146,10 @@ module _ (now : ℕ) (old new : List (ℕ × Kept)) (kept : IsKept old) (left : 
     own = λ k. rw (left, get-filter k (is_young now) old (once-rising old kept.rising)) (filtered k (get_at same_number k old) (kept.own k));
     few = omega (arith, few, kept.few);
   } where
-    filtered : (k : ℕ) (found : Option Kept) → IfSome found (λ kept. kept.lsa.router ≡ k) → IfSome (option_filter (is_young now) found) (λ kept. kept.lsa.router ≡ k)
+    filtered : (k : ℕ) (found : Option Kept) → IfSome found (λ kept. kept.lsa.key ≡ k) → IfSome (option_filter (is_young now) found) (λ kept. kept.lsa.key ≡ k)
     filtered k None own = own
     filtered k (Some instance) own = at_test (is_young now instance) where
-      at_test : (t : Bool) → IfSome (cond t (Some instance) None) (λ kept. kept.lsa.router ≡ k)
+      at_test : (t : Bool) → IfSome (cond t (Some instance) None) (λ kept. kept.lsa.key ≡ k)
       at_test true = own
       at_test false = tt
 

@@ -46,35 +46,35 @@ pub record IsTold (routers : List (ℕ × Kept)) (edge : Edge) : Type 0 where
 
 -- the edge from one to the other, by the metric there and whether there is one back
 abbrev edges_by : Kept → Kept → Option ℕ → Bool → List Edge
-edges_by u v found back = elim found [ None ↦ [] | Some cost ↦ cond back (edge_of u.lsa.router v.lsa.router cost ∷ []) [] ]
+edges_by u v found back = elim found [ None ↦ [] | Some cost ↦ cond back (edge_of u.lsa.key v.lsa.key cost ∷ []) [] ]
 
 two_way-member : (u v : Kept) (edge : Edge) → Contains (two_way u v) edge
-    → (edge.from ≡ u.lsa.router) × (edge.to ≡ v.lsa.router) × (metric_to v.lsa.router u.lsa.links ≡ Some edge.cost) × (is_some (metric_to u.lsa.router v.lsa.links) ≡ true)
-two_way-member u v edge member = by_metric (metric_to v.lsa.router u.lsa.links) refl (is_some (metric_to u.lsa.router v.lsa.links)) refl member where
-  by_metric : (found : Option ℕ) → metric_to v.lsa.router u.lsa.links ≡ found → (back : Bool) → is_some (metric_to u.lsa.router v.lsa.links) ≡ back
+    → (edge.from ≡ u.lsa.key) × (edge.to ≡ v.lsa.key) × (metric_to v.lsa.key u.lsa.content ≡ Some edge.cost) × (is_some (metric_to u.lsa.key v.lsa.content) ≡ true)
+two_way-member u v edge member = by_metric (metric_to v.lsa.key u.lsa.content) refl (is_some (metric_to u.lsa.key v.lsa.content)) refl member where
+  by_metric : (found : Option ℕ) → metric_to v.lsa.key u.lsa.content ≡ found → (back : Bool) → is_some (metric_to u.lsa.key v.lsa.content) ≡ back
       → Contains (edges_by u v found back) edge
-      → (edge.from ≡ u.lsa.router) × (edge.to ≡ v.lsa.router) × (metric_to v.lsa.router u.lsa.links ≡ Some edge.cost) × (is_some (metric_to u.lsa.router v.lsa.links) ≡ true)
+      → (edge.from ≡ u.lsa.key) × (edge.to ≡ v.lsa.key) × (metric_to v.lsa.key u.lsa.content ≡ Some edge.cost) × (is_some (metric_to u.lsa.key v.lsa.content) ≡ true)
   by_metric None is back back-is member = absurd (Contains-none edge member)
   by_metric (Some cost) is false back-is member = absurd (Contains-none edge member)
-  by_metric (Some cost) is true back-is member = elim (Contains-cases (edge_of u.lsa.router v.lsa.router cost) [] edge member) [
+  by_metric (Some cost) is true back-is member = elim (Contains-cases (edge_of u.lsa.key v.lsa.key cost) [] edge member) [
     | inl same ↦ (sym (ap (λ (e : Edge). e.from) same), sym (ap (λ (e : Edge). e.to) same), is ∙ ap (λ (e : Edge). Some e.cost) same, back-is)
     | inr later ↦ absurd (Contains-none edge later)
   ]
 
-member-two_way : (u v : Kept) (edge : Edge) → u.lsa.router ≡ edge.from → v.lsa.router ≡ edge.to → metric_to edge.to u.lsa.links ≡ Some edge.cost → is_some (metric_to edge.from v.lsa.links) ≡ true → Contains (two_way u v) edge
+member-two_way : (u v : Kept) (edge : Edge) → u.lsa.key ≡ edge.from → v.lsa.key ≡ edge.to → metric_to edge.to u.lsa.content ≡ Some edge.cost → is_some (metric_to edge.from v.lsa.content) ≡ true → Contains (two_way u v) edge
 member-two_way u v edge from to there back =
-    let cost : metric_to v.lsa.router u.lsa.links ≡ Some edge.cost = subst (λ k. metric_to k u.lsa.links ≡ Some edge.cost) (sym to) there in
-    let both : is_some (metric_to u.lsa.router v.lsa.links) ≡ true = subst (λ k. is_some (metric_to k v.lsa.links) ≡ true) (sym from) back in
+    let cost : metric_to v.lsa.key u.lsa.content ≡ Some edge.cost = subst (λ k. metric_to k u.lsa.content ≡ Some edge.cost) (sym to) there in
+    let both : is_some (metric_to u.lsa.key v.lsa.content) ≡ true = subst (λ k. is_some (metric_to k v.lsa.content) ≡ true) (sym from) back in
     subst (λ l. Contains l edge) (sym (ap₂ (edges_by u v) cost both)) (subst (λ e. Contains (e ∷ []) edge) (sym shown) (Contains-head edge [])) where
-      shown : edge_of u.lsa.router v.lsa.router edge.cost ≡ edge
-      shown = ap (λ k. edge_of k v.lsa.router edge.cost) from ∙ ap (λ k. edge_of edge.from k edge.cost) to
+      shown : edge_of u.lsa.key v.lsa.key edge.cost ≡ edge
+      shown = ap (λ k. edge_of k v.lsa.key edge.cost) from ∙ ap (λ k. edge_of edge.from k edge.cost) to
 
-module _ (state : LinkState) (once : IsOnce state.routers) (own : (router : ℕ) → IfSome (kept_of router state) (λ kept. kept.lsa.router ≡ router)) where
+module _ (state : LinkState) (once : IsOnce state.routers) (own : (router : ℕ) → IfSome (kept_of router state) (λ kept. kept.lsa.key ≡ router)) where
   -- an instance among the entries is that of its router
-  own_of : (entry : ℕ × Kept) → Contains state.routers entry → (kept_of entry.1.lsa.router state ≡ Some entry.1)
+  own_of : (entry : ℕ × Kept) → Contains state.routers entry → (kept_of entry.1.lsa.key state ≡ Some entry.1)
   own_of entry member =
       let found = member_get entry.0 entry.1 state.routers once member in
-      let router : entry.1.lsa.router ≡ entry.0 = subst (λ (f : Option Kept). IfSome f (λ kept. kept.lsa.router ≡ entry.0)) found (own entry.0) in
+      let router : entry.1.lsa.key ≡ entry.0 = subst (λ (f : Option Kept). IfSome f (λ kept. kept.lsa.key ≡ entry.0)) found (own entry.0) in
       subst (λ k. kept_of k state ≡ Some entry.1) (sym router) found
 
   pub told-learned : (edge : Edge) → Contains (learned state) edge → IsTold state.routers edge
@@ -85,14 +85,14 @@ module _ (state : LinkState) (once : IsOnce state.routers) (own : (router : ℕ)
       let u : kept_of edge.from state ≡ Some outer.0.1 = subst (λ k. kept_of k state ≡ Some outer.0.1) (sym parts.0) (own_of outer.0 outer.1) in
       let v : kept_of edge.to state ≡ Some inner.0.1 = subst (λ k. kept_of k state ≡ Some inner.0.1) (sym parts.1) (own_of inner.0 inner.1) in
       record {
-        there = ap (metric_of edge.from edge.to) u ∙ subst (λ k. metric_to k outer.0.1.lsa.links ≡ Some edge.cost) (sym parts.1) parts.2;
-        back = ap (λ (f : Option Kept). is_some (metric_of edge.to edge.from f)) v ∙ subst (λ k. is_some (metric_to k inner.0.1.lsa.links) ≡ true) (sym parts.0) parts.3;
+        there = ap (metric_of edge.from edge.to) u ∙ subst (λ k. metric_to k outer.0.1.lsa.content ≡ Some edge.cost) (sym parts.1) parts.2;
+        back = ap (λ (f : Option Kept). is_some (metric_of edge.to edge.from f)) v ∙ subst (λ k. is_some (metric_to k inner.0.1.lsa.content) ≡ true) (sym parts.0) parts.3;
       }
 
   pub learned-told : (edge : Edge) → IsTold state.routers edge → Contains (learned state) edge
   learned-told edge told = by_found (kept_of edge.from state) refl (kept_of edge.to state) refl told.there told.back where
-    router_of : (k : ℕ) (kept : Kept) → kept_of k state ≡ Some kept → kept.lsa.router ≡ k
-    router_of k kept found = subst (λ (f : Option Kept). IfSome f (λ kept. kept.lsa.router ≡ k)) found (own k)
+    router_of : (k : ℕ) (kept : Kept) → kept_of k state ≡ Some kept → kept.lsa.key ≡ k
+    router_of k kept found = subst (λ (f : Option Kept). IfSome f (λ kept. kept.lsa.key ≡ k)) found (own k)
 
     by_found : (u : Option Kept) → kept_of edge.from state ≡ u → (v : Option Kept) → kept_of edge.to state ≡ v → metric_of edge.from edge.to u ≡ Some edge.cost → is_some (metric_of edge.to edge.from v) ≡ true
         → Contains (learned state) edge
@@ -137,8 +137,8 @@ module _ (routers : List (ℕ × Kept)) (links : List Edge) (kept : IsKept route
       (and_from _ _ (is_cost-same edge.cost (least_between edge.from edge.to links) least) (ap is_some (least_told edge.to edge.from) ∙ told.back))
 
   module _ (state : LinkState) (holds : Holds (state_of routers) state) where
-    own_in : (router : ℕ) → IfSome (kept_of router state) (λ kept. kept.lsa.router ≡ router)
-    own_in router = subst (λ (f : Option Kept). IfSome f (λ kept. kept.lsa.router ≡ router)) (holds.same router) (kept.own router)
+    own_in : (router : ℕ) → IfSome (kept_of router state) (λ kept. kept.lsa.key ≡ router)
+    own_in router = subst (λ (f : Option Kept). IfSome f (λ kept. kept.lsa.key ≡ router)) (holds.same router) (kept.own router)
 
     same_told : (edge : Edge) → IsTold routers edge ↔ IsTold state.routers edge
     same_told edge =

@@ -112,20 +112,20 @@ module _ (from to : ℕ) where
   -- the least metric that the instance of a router has for the other
   abbrev pub metric_of : Option Kept → Option ℕ
   metric_of None = None
-  metric_of (Some kept) = metric_to to kept.lsa.links
+  metric_of (Some kept) = metric_to to kept.lsa.content
 
   pub least-kept : (routers : List (ℕ × Kept)) → IsOnce routers → least_between from to (links_in routers) ≡ metric_of (get_at same_number from routers)
   least-kept [] once = refl
   least-kept (entry ∷ routers) once =
-      least-append (links_from entry.0 entry.1.lsa.links) (links_in routers) ∙ at_test (from == entry.0) refl (least-kept routers once.1) where
+      least-append (links_from entry.0 entry.1.lsa.content) (links_in routers) ∙ at_test (from == entry.0) refl (least-kept routers once.1) where
         turned : (from == entry.0) ≡ false → (t : Bool) → (entry.0 == from) ≡ t → (entry.0 == from) ≡ false
         turned other true same = absurd (false≢true (sym other ∙ eq-eqb from entry.0 (sym (eqb-true entry.0 from same))))
         turned other false differs = differs
 
         at_test : (t : Bool) → (from == entry.0) ≡ t → least_between from to (links_in routers) ≡ metric_of (get_at same_number from routers)
-            → joined (least_between from to (links_from entry.0 entry.1.lsa.links)) (least_between from to (links_in routers)) ≡ metric_of (cond t (Some entry.1) (get_at same_number from routers))
+            → joined (least_between from to (links_from entry.0 entry.1.lsa.content)) (least_between from to (links_in routers)) ≡ metric_of (cond t (Some entry.1) (get_at same_number from routers))
         at_test true same rest =
             let none : get_at same_number from routers ≡ None = subst (λ k. get_at same_number k routers ≡ None) (sym (eqb-true from entry.0 same)) once.0 in
-            ap₂ joined (subst (λ k. least_between from to (links_from k entry.1.lsa.links) ≡ metric_to to entry.1.lsa.links) (eqb-true from entry.0 same) (least-links entry.1.lsa.links)) (rest ∙ ap metric_of none)
-            ∙ joined-none (metric_to to entry.1.lsa.links)
-        at_test false other rest = ap (λ a. joined a (least_between from to (links_in routers))) (least-others entry.0 entry.1.lsa.links (turned other (entry.0 == from) refl)) ∙ rest
+            ap₂ joined (subst (λ k. least_between from to (links_from k entry.1.lsa.content) ≡ metric_to to entry.1.lsa.content) (eqb-true from entry.0 same) (least-links entry.1.lsa.content)) (rest ∙ ap metric_of none)
+            ∙ joined-none (metric_to to entry.1.lsa.content)
+        at_test false other rest = ap (λ a. joined a (least_between from to (links_in routers))) (least-others entry.0 entry.1.lsa.content (turned other (entry.0 == from) refl)) ∙ rest

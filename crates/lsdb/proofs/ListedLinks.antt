@@ -5,7 +5,7 @@ use Rattle.std.proofs.lemmas.Bool.Decides.{nat_tests}
 use Rattle.std.proofs.lemmas.List.Elements.{Contains-append_left, Contains-append_right, Contains-append_cases}
 use Rattle.rcp_model.specs.declared.event.Edge.{Edge}
 use Rattle.rcp_base.specs.Maps.{get_at, put_at, without}
-use Rattle.rcp_model.specs.LinkState.{LsaHeader, RouterLink, RouterLsa, Kept, LinkState, same_number, kept_of, is_more_recent, Installation, Newer, Same, Older, Flushed, Dropped, installation, installed, aged}
+use Rattle.rcp_model.specs.LinkState.{LsaHeader, RouterLink, RouterLsa, Kept, LinkState, same_number, kept_of, is_more_recent, Installation, Newer, Same, Older, Flushed, Dropped, kept_after, installation, installed, aged}
 use Rattle.rcp_model.specs.Edges.{metric_to, learned, edges_of}
 use Rattle.rcp_model.proofs.MemberLemmas.{Contains-head, Contains-tail, Contains-cases, Contains-none}
 use Rattle.rcp_base.proofs.MapLemmas.{get_at-put_at_same, get_at-put_at_other, get_at-without_passed, get_at-without_left}
@@ -70,30 +70,30 @@ module _ (state : LinkState) (edge : Edge) where
     by_found None u-is v v-is there back = absurd cc
     by_found (Some u) u-is None v-is there back = absurd (false≢true back)
     by_found (Some u) u-is (Some v) v-is there back =
-        let found : least_between edge.from edge.to (links_from edge.from u.lsa.links) ≡ Some edge.cost = least-links edge.from edge.to u.lsa.links ∙ there in
+        let found : least_between edge.from edge.to (links_from edge.from u.lsa.content) ≡ Some edge.cost = least-links edge.from edge.to u.lsa.content ∙ there in
         record {
-          listed = (u, u-is, link-listed edge.from edge.to edge.cost u.lsa.links (least-member edge.from edge.to (links_from edge.from u.lsa.links) edge.cost found));
+          listed = (u, u-is, link-listed edge.from edge.to edge.cost u.lsa.content (least-member edge.from edge.to (links_from edge.from u.lsa.content) edge.cost found));
           least = λ metric lists.
               let same : lists.0 ≡ u = some-same lists.0 u (sym lists.1 ∙ u-is) in
-              let member : Contains (links_from edge.from u.lsa.links) (edge_of edge.from edge.to metric) =
-              listed-link edge.from edge.to metric u.lsa.links (subst (λ (k : Kept). Contains k.lsa.links (link_of edge.to metric)) same lists.2) in
-              subst (λ f. IsSomeAnd f (λ c. c ≤ metric)) found (least-le edge.from edge.to (links_from edge.from u.lsa.links) metric member);
-          back = let other = some_back v.lsa.links (metric_to edge.from v.lsa.links) refl back in (other.0, (v, v-is, other.1));
+              let member : Contains (links_from edge.from u.lsa.content) (edge_of edge.from edge.to metric) =
+              listed-link edge.from edge.to metric u.lsa.content (subst (λ (k : Kept). Contains k.lsa.content (link_of edge.to metric)) same lists.2) in
+              subst (λ f. IsSomeAnd f (λ c. c ≤ metric)) found (least-le edge.from edge.to (links_from edge.from u.lsa.content) metric member);
+          back = let other = some_back v.lsa.content (metric_to edge.from v.lsa.content) refl back in (other.0, (v, v-is, other.1));
         }
 
   two_way-told : IsTwoWay state edge → IsTold state.routers edge
   two_way-told two_way =
       let u = two_way.listed.0 in
       let v = two_way.back.1.0 in
-      let found : metric_to edge.to u.lsa.links ≡ Some edge.cost =
-      sym (least-links edge.from edge.to u.lsa.links)
-      ∙ sym (least-is edge.from edge.to (links_from edge.from u.lsa.links) edge.cost (listed-link edge.from edge.to edge.cost u.lsa.links two_way.listed.2)
-      (λ metric member. two_way.least metric (u, two_way.listed.1, link-listed edge.from edge.to metric u.lsa.links member))) in
+      let found : metric_to edge.to u.lsa.content ≡ Some edge.cost =
+      sym (least-links edge.from edge.to u.lsa.content)
+      ∙ sym (least-is edge.from edge.to (links_from edge.from u.lsa.content) edge.cost (listed-link edge.from edge.to edge.cost u.lsa.content two_way.listed.2)
+      (λ metric member. two_way.least metric (u, two_way.listed.1, link-listed edge.from edge.to metric u.lsa.content member))) in
       record {
         there = ap (metric_of edge.from edge.to) two_way.listed.1 ∙ found;
-        back = ap (λ (f : Option Kept). is_some (metric_of edge.to edge.from f)) two_way.back.1.1 ∙ back (metric_to edge.from v.lsa.links)
-            (subst (λ f. IsSomeAnd f (λ c. c ≤ two_way.back.0)) (least-links edge.to edge.from v.lsa.links)
-            (least-le edge.to edge.from (links_from edge.to v.lsa.links) two_way.back.0 (listed-link edge.to edge.from two_way.back.0 v.lsa.links two_way.back.1.2)));
+        back = ap (λ (f : Option Kept). is_some (metric_of edge.to edge.from f)) two_way.back.1.1 ∙ back (metric_to edge.from v.lsa.content)
+            (subst (λ f. IsSomeAnd f (λ c. c ≤ two_way.back.0)) (least-links edge.to edge.from v.lsa.content)
+            (least-le edge.to edge.from (links_from edge.to v.lsa.content) two_way.back.0 (listed-link edge.to edge.from two_way.back.0 v.lsa.content two_way.back.1.2)));
       } where
         back : (found : Option ℕ) → IsSomeAnd found (λ c. c ≤ two_way.back.0) → is_some found ≡ true
         back None le = absurd le
@@ -118,29 +118,29 @@ edges-members state fixed edge is = (
 
 -- ---- one instance of each router
 
-own-put : (lsa : RouterLsa) (now : ℕ) (state : LinkState) → IsMap state → (k : ℕ) → IfSome (get_at same_number k (put_at same_number lsa.router (record { lsa = lsa; since = now }) state.routers)) (λ kept. kept.lsa.router ≡ k)
-own-put lsa now state is k = at_test (k == lsa.router) refl where
+own-put : (lsa : RouterLsa) (now : ℕ) (state : LinkState) → IsMap state → (k : ℕ) → IfSome (get_at same_number k (put_at same_number lsa.key (record { lsa = lsa; since = now }) state.routers)) (λ kept. kept.lsa.key ≡ k)
+own-put lsa now state is k = at_test (k == lsa.key) refl where
   value : Kept
   value = record { lsa = lsa; since = now }
 
-  at_test : (t : Bool) → (k == lsa.router) ≡ t → IfSome (get_at same_number k (put_at same_number lsa.router value state.routers)) (λ kept. kept.lsa.router ≡ k)
-  at_test true same = subst (λ (f : Option Kept). IfSome f (λ kept. kept.lsa.router ≡ k))
-      (sym (subst (λ j. get_at same_number j (put_at same_number lsa.router value state.routers) ≡ Some value) (sym (eqb-true k lsa.router same)) (get_at-put_at_same same_number number_test lsa.router value state.routers)))
-      (sym (eqb-true k lsa.router same))
-  at_test false other = subst (λ (f : Option Kept). IfSome f (λ kept. kept.lsa.router ≡ k)) (sym (get_at-put_at_other same_number number_test lsa.router k value state.routers other)) (is.own k)
+  at_test : (t : Bool) → (k == lsa.key) ≡ t → IfSome (get_at same_number k (put_at same_number lsa.key value state.routers)) (λ kept. kept.lsa.key ≡ k)
+  at_test true same = subst (λ (f : Option Kept). IfSome f (λ kept. kept.lsa.key ≡ k))
+      (sym (subst (λ j. get_at same_number j (put_at same_number lsa.key value state.routers) ≡ Some value) (sym (eqb-true k lsa.key same)) (get_at-put_at_same same_number number_test lsa.key value state.routers)))
+      (sym (eqb-true k lsa.key same))
+  at_test false other = subst (λ (f : Option Kept). IfSome f (λ kept. kept.lsa.key ≡ k)) (sym (get_at-put_at_other same_number number_test lsa.key k value state.routers other)) (is.own k)
 
-own-without : (key : ℕ) (state : LinkState) → IsMap state → (k : ℕ) → IfSome (get_at same_number k (without (same_number key) state.routers)) (λ kept. kept.lsa.router ≡ k)
+own-without : (key : ℕ) (state : LinkState) → IsMap state → (k : ℕ) → IfSome (get_at same_number k (without (same_number key) state.routers)) (λ kept. kept.lsa.key ≡ k)
 own-without key state is k = at_test (key == k) refl where
-  at_test : (t : Bool) → (key == k) ≡ t → IfSome (get_at same_number k (without (same_number key) state.routers)) (λ kept. kept.lsa.router ≡ k)
-  at_test true same = subst (λ (f : Option Kept). IfSome f (λ kept. kept.lsa.router ≡ k)) (sym (get_at-without_passed same_number number_test (same_number key) k state.routers same)) tt
-  at_test false other = subst (λ (f : Option Kept). IfSome f (λ kept. kept.lsa.router ≡ k)) (sym (get_at-without_left same_number number_test (same_number key) k state.routers other)) (is.own k)
+  at_test : (t : Bool) → (key == k) ≡ t → IfSome (get_at same_number k (without (same_number key) state.routers)) (λ kept. kept.lsa.key ≡ k)
+  at_test true same = subst (λ (f : Option Kept). IfSome f (λ kept. kept.lsa.key ≡ k)) (sym (get_at-without_passed same_number number_test (same_number key) k state.routers same)) tt
+  at_test false other = subst (λ (f : Option Kept). IfSome f (λ kept. kept.lsa.key ≡ k)) (sym (get_at-without_left same_number number_test (same_number key) k state.routers other)) (is.own k)
 
 pub map-installed : (now : ℕ) (lsa : RouterLsa) (state : LinkState) → IsMap state → IsMap (installed now lsa state)
-unfolding installed
+unfolding installation installed kept_after
 map-installed now lsa state is = by_answer (installation now lsa state) where
   by_answer : (answer : Installation) → IsMap (state_after now lsa state answer)
-  by_answer Newer = record { once = once-put lsa.router (record { lsa = lsa; since = now }) state.routers is.once; own = own-put lsa now state is }
-  by_answer Flushed = record { once = once-filter (λ entry. not (same_number lsa.router entry.0)) state.routers is.once; own = own-without lsa.router state is }
+  by_answer Newer = record { once = once-put lsa.key (record { lsa = lsa; since = now }) state.routers is.once; own = own-put lsa now state is }
+  by_answer Flushed = record { once = once-filter (λ entry. not (same_number lsa.key entry.0)) state.routers is.once; own = own-without lsa.key state is }
   by_answer Same = is
   by_answer Older = is
   by_answer Dropped = is
@@ -149,12 +149,12 @@ pub map-aged : (now : ℕ) (state : LinkState) → IsMap state → IsMap (aged n
 unfolding aged
 map-aged now state is = record {
   once = once-filter (λ entry. is_young now entry.1) state.routers is.once;
-  own = λ k. subst (λ (f : Option Kept). IfSome f (λ kept. kept.lsa.router ≡ k)) (sym (get-filter k (is_young now) state.routers is.once)) (filtered k (get_at same_number k state.routers) (is.own k));
+  own = λ k. subst (λ (f : Option Kept). IfSome f (λ kept. kept.lsa.key ≡ k)) (sym (get-filter k (is_young now) state.routers is.once)) (filtered k (get_at same_number k state.routers) (is.own k));
 } where
-  filtered : (k : ℕ) (found : Option Kept) → IfSome found (λ kept. kept.lsa.router ≡ k) → IfSome (option_filter (is_young now) found) (λ kept. kept.lsa.router ≡ k)
+  filtered : (k : ℕ) (found : Option Kept) → IfSome found (λ kept. kept.lsa.key ≡ k) → IfSome (option_filter (is_young now) found) (λ kept. kept.lsa.key ≡ k)
   filtered k None own = own
   filtered k (Some instance) own = at_test (is_young now instance) where
-    at_test : (t : Bool) → IfSome (cond t (Some instance) None) (λ kept. kept.lsa.router ≡ k)
+    at_test : (t : Bool) → IfSome (cond t (Some instance) None) (λ kept. kept.lsa.key ≡ k)
     at_test true = own
     at_test false = tt
 

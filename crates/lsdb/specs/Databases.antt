@@ -17,7 +17,7 @@ empty = record { state = record { routers = [] }; moment = 0 }
 -- what each database keeps: its routers stand in order, each with an instance of its own, and aren't too many
 pub record IsKept (routers : List (ℕ × Kept)) : Type 0 where
   pub rising : IsStrictlySortedBy nat_cmp (keys_of routers)
-  pub own : (router : ℕ) → IfSome (get_at same_number router routers) (λ kept. kept.lsa.router ≡ router)
+  pub own : (router : ℕ) → IfSome (get_at same_number router routers) (λ kept. kept.lsa.key ≡ router)
   pub few : length routers ≤ most_routers
 
 -- The entries of a map before and after: this is at the key then, and the others are as before.

@@ -14,7 +14,7 @@ links_from router links =
 
 -- those of all routers
 abbrev pub links_in : List (ℕ × Kept) → List Edge
-links_in routers = flat_map (λ (entry : ℕ × Kept). links_from entry.0 entry.1.lsa.links) routers
+links_in routers = flat_map (λ (entry : ℕ × Kept). links_from entry.0 entry.1.lsa.content) routers
 
 -- the least cost of the edges from one router to another
 abbrev pub least_between : ℕ → ℕ → List Edge → Option ℕ

@@ -8,11 +8,11 @@ use Rattle.lsdb.specs.Databases.{IsOnce}
 -- each router has one instance, which is its own
 pub record IsMap (state : LinkState) : Type 0 where
   pub once : IsOnce state.routers
-  pub own : (router : ℕ) → IfSome (kept_of router state) (λ kept. kept.lsa.router ≡ router)
+  pub own : (router : ℕ) → IfSome (kept_of router state) (λ kept. kept.lsa.key ≡ router)
 
 -- the instance of the one router lists the other by a point-to-point link with this metric
 abbrev pub Lists : LinkState → ℕ → ℕ → ℕ → Type 0
-Lists state from to metric = (kept : Kept) × (kept_of from state ≡ Some kept) × Contains kept.lsa.links (record { id = to; kind = POINT_TO_POINT; metric = metric })
+Lists state from to metric = (kept : Kept) × (kept_of from state ≡ Some kept) × Contains kept.lsa.content (record { id = to; kind = POINT_TO_POINT; metric = metric })
 
 -- each end lists the other, and the cost is the least metric of the first
 pub record IsTwoWay (state : LinkState) (edge : Edge) : Type 0 where

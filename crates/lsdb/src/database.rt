@@ -112,7 +112,7 @@ impl Lsdb {
 
 /// Keeps an LSA in the place of the one before.
 fn keep(routers: &mut BTreeMap<RouterId, Instance>, lsa: Lsa, now: u64) -> Result<(), NoMemory>
-    ensures ok { OnOk result (Changes lsa.router (Some (record { lsa = lsa; since = now })) routers.old.entries routers.new.entries) }
+    ensures ok { OnOk result (Changes lsa.key (Some (record { lsa = lsa; since = now })) routers.old.entries routers.new.entries) }
     ensures err { OnErr result (routers.new.entries ≡ routers.old.entries) }
 {
     let router = lsa.router;

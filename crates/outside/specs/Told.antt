@@ -1,5 +1,5 @@
 -- The words of the traits of the outside: counts that never fall, and octets that are told or not.
-use Rattle.std.specs.Prelude.{◌≡◌, refl, ℕ, ◌+◌, ◌-◌, ◌^◌, ◌≤◌, min, List, [], ◌++◌, Option, None, Some}
+use Rattle.std.specs.Prelude.{◌≡◌, refl, ℕ, ◌+◌, ◌-◌, ◌^◌, ◌<◌, ◌≤◌, min, List, [], ◌++◌, Option, None, Some, All}
 use Rattle.std.proofs.Common.{ap, sym, append_assoc, append-nil}
 
 -- one more, or the last value that a count of 64 bits has
@@ -13,6 +13,10 @@ Rose before now = raised before ≤ now
 abbrev pub NeverFalls : ℕ → ℕ → Type 0
 NeverFalls before now = before ≤ now
 
+-- each is an octet
+abbrev pub AreOctets : List ℕ → Type 0
+AreOctets xs = All (λ x. x < 256) xs
+
 -- these octets put in front of those still to come, where they are told
 abbrev pub in_front : List ℕ → Option (List ℕ) → Option (List ℕ)
 in_front octets None = None
@@ -22,6 +26,11 @@ in_front octets (Some left) = Some (octets ++ left)
 abbrev pub behind : Option (List ℕ) → List ℕ → Option (List ℕ)
 behind None octets = None
 behind (Some taken) octets = Some (taken ++ octets)
+
+-- these values put behind those of a list, where it is told
+abbrev pub followed : {A : Type 0} → Option (List A) → List A → Option (List A)
+followed None more = None
+followed (Some list) more = Some (list ++ more)
 
 -- two pieces, read or written one after the other, are one
 

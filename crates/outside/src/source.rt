@@ -1,6 +1,6 @@
 // Where octets come from.
 ghost use Rattle.std.specs.Prelude.{◌≡◌, ◌<◌, ◌≤◌, ◌^◌, List, ℕ, Option, Some, [], Ok, take, length, IfOk, OnErr, IfSome};
-ghost use Rattle.outside.specs.Told.{Rose, NeverFalls, in_front};
+ghost use Rattle.outside.specs.Told.{Rose, NeverFalls, in_front, AreOctets};
 
 use crate::Failed;
 
@@ -23,6 +23,7 @@ pub trait Source {
         // The octets that the buffer was given are the next of those still to come.
         ensures within { IfOk result (λ count. count ≤ length buf.new) }
         ensures given { IfOk result (λ count. left self.old ≡ in_front (take count buf.new) (left self.new)) }
+        ensures are_octets { IfSome (left self.old) AreOctets }
 
         // 0 is the end of the input, and the end stays the end, whether the octets are told or not.
         ensures end { result ≡ Ok 0 → ended self.new }

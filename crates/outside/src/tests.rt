@@ -4,6 +4,8 @@ ghost use Rattle.std.specs.Prelude.{◌≤◌, ◌<◌, Some, None};
 use super::*;
 use std::test::Fail;
 
+mod links;
+
 /// A sink that takes at most two octets in a write.
 #[derive(Drop)]
 struct Narrow {
@@ -53,6 +55,18 @@ fn a_source_gives_as_much_as_fits_and_then_stays_at_its_end(rt: HostRuntime) -> 
         assert_eq!(rt; source.read(&mut buf), Ok(count));
         assert_eq!(rt; buf.as_slice(), now.as_slice());
     }
+    Ok(())
+}
+
+#[test]
+fn a_read_gives_at_most_its_bound(rt: HostRuntime) -> Result<(), Fail> {
+    let alloc = rt.alloc();
+    let mut source = MemSource::with_most([1, 2, 3].to_vec(alloc)?, [2].to_vec(alloc)?, 2);
+    let mut buf = [9; 4];
+    for answer in [Ok(2), Err(Failed), Ok(1), Ok(0)] {
+        assert_eq!(rt; source.read(&mut buf), answer);
+    }
+    assert_eq!(rt; buf.as_slice(), [3, 2, 9, 9].as_slice());
     Ok(())
 }
 

@@ -8,7 +8,7 @@ use Rattle.rcp_base.specs.declared.names.Member.{Member}
 use Rattle.rcp_model.specs.declared.event.Edge.{Edge}
 use Rattle.rcp_model.specs.Routes.{route_in, is_usable}
 use Rattle.rcp_model.specs.Decision.{Contender, contender, tied, IsNearest}
-use Rattle.rcp_model.specs.Control.{Domain, Announced, slot_cost, announcement_contender, cons_some, candidates_from, candidates, IsCandidate, choice_of, unless_own, offer}
+use Rattle.rcp_model.specs.RouteServer.{Domain, Announced, slot_cost, announcement_contender, cons_some, candidates_from, candidates, IsCandidate, choice_of, unless_own, offer}
 use Rattle.rcp_model.proofs.FilterLemmas.{choice_none, choice_is_nearest}
 use Rattle.rcp_model.proofs.MemberLemmas.{Contains-head, Contains-tail, Contains-cases, Contains-none}
 

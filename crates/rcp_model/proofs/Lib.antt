@@ -23,3 +23,4 @@ pub mod PacketLemmas
 pub mod WalkLemmas
 pub mod FaultlessLemmas
 pub mod SessionLemmas
+pub mod PackingLemmas

@@ -10,7 +10,7 @@ use Rattle.rcp_model.specs.declared.event.Edge.{Edge}
 use Rattle.rcp_model.specs.Maps.{same_prefix, is_among}
 use Rattle.rcp_model.specs.Routes.{route_in, is_usable}
 use Rattle.rcp_model.specs.Decision.{Contender, tied, is_nearer, nearest, choice}
-use Rattle.rcp_model.specs.Control.{Domain, Announced, Announcements, Server, Links, same_place, announced_by, announced_at, announced_prefixes, router_at, slot_cost, announcement_contender, cons_some, candidates_from, candidates, choice_of, unless_own, offer, same_cost, cost_differs, moved, after}
+use Rattle.rcp_model.specs.RouteServer.{Domain, Announced, Announcements, Server, Links, same_place, announced_by, announced_at, announced_prefixes, router_at, slot_cost, announcement_contender, cons_some, candidates_from, candidates, choice_of, unless_own, offer, same_cost, cost_differs, moved, after}
 use Rattle.rcp_base.proofs.MapLemmas.{is_among-include_all}
 use Rattle.rcp_model.proofs.OfferLemmas.{filter-keeps}
 use Rattle.rcp_model.proofs.ServerLemmas.{Settled, include_all-form, kept-form}
@@ -139,15 +139,15 @@ pub settled-links : (domain : Domain) (edges : List Edge) (server : Server) → 
 unfolding after
 settled-links domain edges server h = record {
   offers = λ slot table p is untouched.
-      let quiet : (is_among (announced_prefixes (moved domain server.edges edges server.announcements)) p || is_among server.touched p) ≡ false
-      = sym (is_among-include_all (announced_prefixes (moved domain server.edges edges server.announcements)) server.touched p) ∙ untouched in
+      let quiet : (is_among (announced_prefixes (moved domain server.edges edges server.announcements)) p || is_among server.pending p) ≡ false
+      = sym (is_among-include_all (announced_prefixes (moved domain server.edges edges server.announcements)) server.pending p) ∙ untouched in
       let parts = or_parts _ _ quiet in
       h.offers slot table p is parts.1
       ∙ offer-costs domain (announced_at server.announcements p) server.edges edges slot
       (λ e octets announced. every-same server.edges edges domain.members e slot (unmoved p e octets announced parts.0));
   canonical = h.canonical;
-  touched = include_all-form (announced_prefixes (moved domain server.edges edges server.announcements)) server.touched
-      (kept-form (λ entry. cost_differs server.edges edges domain.members entry.0.0 (length domain.members)) server.announcements h.announced) h.touched;
+  pending = include_all-form (announced_prefixes (moved domain server.edges edges server.announcements)) server.pending
+      (kept-form (λ entry. cost_differs server.edges edges domain.members entry.0.0 (length domain.members)) server.announcements h.announced) h.pending;
   announced = h.announced;
 } where
   unmoved : (p : IpPrefix) (e : ℕ) (octets : List ℕ) → announced_by server.announcements e p ≡ Some octets

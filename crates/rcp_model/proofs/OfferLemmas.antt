@@ -9,7 +9,7 @@ use Rattle.rcp_model.specs.declared.event.Edge.{Edge}
 use Rattle.rcp_model.specs.Attributes.{canonical_octets, attributes_in}
 use Rattle.rcp_model.specs.Routes.{route_of, route_in, is_usable, is_long}
 use Rattle.rcp_model.specs.Decision.{Contender, tied, is_of, is_nearer, nearest, choice}
-use Rattle.rcp_model.specs.Control.{Domain, Announced, announcement_contender, cons_some, candidates_from, candidates, slot_cost, choice_of, unless_own, offer}
+use Rattle.rcp_model.specs.RouteServer.{Domain, Announced, announcement_contender, cons_some, candidates_from, candidates, slot_cost, choice_of, unless_own, offer}
 
 -- ---- where nothing is announced, nothing is offered
 

@@ -1,4 +1,4 @@
--- What the events of the server keep: where a prefix isn't touched, each table has what its slot is offered.
+-- What the events of the server keep: where a prefix isn't pending, each table has what its slot is offered.
 use Rattle.std.proofs.Common.{◌≡◌, ℕ, Bool, true, false, not, ◌&&◌, ◌||◌, eqb, List, [], ◌∷◌, Option, Some, None, refl, sym, ap, ◌∙◌, ◌⊎◌, inl, inr}
 use Rattle.std.specs.Prelude.{filter}
 use Rattle.std.specs.List.{AllByRecursion}
@@ -9,7 +9,7 @@ use Rattle.rcp_model.specs.Maps.{get_at, put_at, set_at, same_prefix, is_before,
 use Rattle.rcp_model.specs.Attributes.{canonical_octets, attributes_in}
 use Rattle.rcp_model.specs.Updates.{Table}
 use Rattle.rcp_model.specs.LinkState.{same_number}
-use Rattle.rcp_model.specs.Control.{Domain, Place, Announcements, Server, Up, Down, Change, Work, same_place, announced_by, announced_at, announced_prefixes, of_slot, same_octets, table_of, is_connected, is_touched, offer, worked, after}
+use Rattle.rcp_model.specs.RouteServer.{Domain, Place, Announcements, Server, Up, Down, Change, Work, same_place, announced_by, announced_at, announced_prefixes, of_slot, same_octets, table_of, is_connected, is_pending, offer, worked, after}
 use Rattle.rcp_base.proofs.MapLemmas.{IsKeyTest, get_at-put_at_same, get_at-put_at_other, get_at-without_passed, get_at-without_left, get_at-set_at_same, get_at-set_at_other, same_prefix-is, same_prefix-itself, same_prefix-other, prefix_test, is_among-include, is_among-include_all}
 use Rattle.rcp_model.proofs.OfferLemmas.{offer-none, filter-keeps}
 
@@ -67,10 +67,10 @@ pub record AreCanonical (a : Announcements) : Type 0 where
   pub each : (slot : ℕ) (p : IpPrefix) (octets : List ℕ) → announced_by a slot p ≡ Some octets → canonical_octets (attributes_in octets) ≡ octets
 
 pub record Settled (domain : Domain) (server : Server) : Type 0 where
-  pub offers : (slot : ℕ) (table : Table) (p : IpPrefix) → table_of server slot ≡ Some table → is_touched server p ≡ false
+  pub offers : (slot : ℕ) (table : Table) (p : IpPrefix) → table_of server slot ≡ Some table → is_pending server p ≡ false
       → get_at same_prefix p table ≡ offer domain (announced_at server.announcements p) server.edges slot
   pub canonical : AreCanonical server.announcements
-  pub touched : AllByRecursion IsPrefix server.touched
+  pub pending : AllByRecursion IsPrefix server.pending
   pub announced : AllByRecursion IsPrefix (announced_prefixes server.announcements)
 
 -- ---- forms
@@ -119,8 +119,8 @@ empty_table table given = cc
 pub settled-up : (domain : Domain) (slot : ℕ) (server : Server) → Settled domain server → Settled domain (after domain (Up slot) server)
 unfolding after
 settled-up domain slot server h = record {
-  offers = λ s table p is untouched.
-      let quiet : (is_among (announced_prefixes server.announcements) p || is_among server.touched p) ≡ false = sym (is_among-include_all (announced_prefixes server.announcements) server.touched p) ∙ untouched in
+  offers = λ s table p is not_pending.
+      let quiet : (is_among (announced_prefixes server.announcements) p || is_among server.pending p) ≡ false = sym (is_among-include_all (announced_prefixes server.announcements) server.pending p) ∙ not_pending in
       let parts = or_parts _ _ quiet in
       elim (cases_Bool (eqb s slot)) [
         | inl e ↦
@@ -132,7 +132,7 @@ settled-up domain slot server h = record {
             h.offers s table p (sym (get_at-put_at_other same_number number_test slot s [] server.tables e) ∙ is) parts.1
       ];
   canonical = h.canonical;
-  touched = include_all-form (announced_prefixes server.announcements) server.touched h.announced h.touched;
+  pending = include_all-form (announced_prefixes server.announcements) server.pending h.announced h.pending;
   announced = h.announced;
 }
 
@@ -196,9 +196,9 @@ none_some table e = cc
 pub settled-down : (domain : Domain) (slot : ℕ) (server : Server) → Settled domain server → Settled domain (after domain (Down slot) server)
 unfolding after left
 settled-down domain slot server h = record {
-  offers = λ s table p is untouched.
-      let quiet : (is_among (announced_prefixes (of_slot slot server.announcements)) p || is_among server.touched p) ≡ false
-      = sym (is_among-include_all (announced_prefixes (of_slot slot server.announcements)) server.touched p) ∙ untouched in
+  offers = λ s table p is not_pending.
+      let quiet : (is_among (announced_prefixes (of_slot slot server.announcements)) p || is_among server.pending p) ≡ false
+      = sym (is_among-include_all (announced_prefixes (of_slot slot server.announcements)) server.pending p) ∙ not_pending in
       let parts = or_parts _ _ quiet in
       elim (cases_Bool (eqb slot s)) [
         | inl own ↦
@@ -209,7 +209,7 @@ settled-down domain slot server h = record {
             (λ i e. left-same server.announcements slot e p (unannounced_own server.announcements slot p parts.0) i)
       ];
   canonical = left-canonical server.announcements slot h.canonical;
-  touched = include_all-form (announced_prefixes (of_slot slot server.announcements)) server.touched (kept-form (λ entry. eqb entry.0.0 slot) server.announcements h.announced) h.touched;
+  pending = include_all-form (announced_prefixes (of_slot slot server.announcements)) server.pending (kept-form (λ entry. eqb entry.0.0 slot) server.announcements h.announced) h.pending;
   announced = kept-form (λ entry. not (eqb entry.0.0 slot)) server.announcements h.announced;
 }
 
@@ -236,19 +236,19 @@ canonical-set a slot p octets h good = record {
 }
 
 changed : (slot : ℕ) (p : IpPrefix) (octets : Option (List ℕ)) (server : Server) → Server
-changed slot p octets server = record server { announcements = set_at same_place (slot, p) octets server.announcements; touched = include p server.touched }
+changed slot p octets server = record server { announcements = set_at same_place (slot, p) octets server.announcements; pending = include p server.pending }
 
 settled-changed : (domain : Domain) (slot : ℕ) (p : IpPrefix) (octets : Option (List ℕ)) (server : Server) → IsPrefix p
     → ((o : List ℕ) → octets ≡ Some o → canonical_octets (attributes_in o) ≡ o) → Settled domain server → Settled domain (changed slot p octets server)
 unfolding changed
 settled-changed domain slot p octets server form good h = record {
-  offers = λ s table q is untouched.
-      let parts = or_parts (same_prefix q p) (is_among server.touched q) (sym (is_among-include p q server.touched) ∙ untouched) in
+  offers = λ s table q is not_pending.
+      let parts = or_parts (same_prefix q p) (is_among server.pending q) (sym (is_among-include p q server.pending) ∙ not_pending) in
       h.offers s table q is parts.1
       ∙ ap (λ announced. offer domain announced server.edges s)
       (λ i e. sym (announced-other server.announcements slot e p q octets (same_prefix-other q p parts.0)) i);
   canonical = canonical-set server.announcements slot p octets h.canonical good;
-  touched = include-form p server.touched form h.touched;
+  pending = include-form p server.pending form h.pending;
   announced = set_at-form (slot, p) octets server.announcements form h.announced;
 }
 
@@ -321,17 +321,17 @@ worked-from domain a edges p slot tables table is = by_cases (get_at same_number
 pub settled-work : (domain : Domain) (p : IpPrefix) (server : Server) → Settled domain server → Settled domain (after domain (Work p) server)
 unfolding after
 settled-work domain p server h = record {
-  offers = λ s table q is untouched.
+  offers = λ s table q is not_pending.
       let before = worked-from domain server.announcements server.edges p s server.tables table is in
       rw before.2 (
       elim (cases_Bool (same_prefix p q)) [
         | inl e ↦ let k : p ≡ q = same_prefix-is p q e in
             rw (← k) (get_at-set_at_same same_prefix prefix_test p (offer domain (announced_at server.announcements p) server.edges s) before.0)
         | inr e ↦
-            let quiet : is_among server.touched q ≡ false = elim (not_among-filter p q server.touched untouched) [ inl t ↦ absurd (both_ways (same_prefix p q) e t) | inr n ↦ n ] in
+            let quiet : is_among server.pending q ≡ false = elim (not_among-filter p q server.pending not_pending) [ inl t ↦ absurd (both_ways (same_prefix p q) e t) | inr n ↦ n ] in
             get_at-set_at_other same_prefix prefix_test p q (offer domain (announced_at server.announcements p) server.edges s) before.0 (same_prefix-other p q e) e ∙ h.offers s before.0 q before.1 quiet
       ]);
   canonical = h.canonical;
-  touched = filter-keeps IsPrefix (λ q. not (same_prefix p q)) server.touched h.touched;
+  pending = filter-keeps IsPrefix (λ q. not (same_prefix p q)) server.pending h.pending;
   announced = h.announced;
 }

@@ -22,9 +22,9 @@ metric_to router (link ∷ links) =
 
 -- the edge from one router to another where each lists the other
 abbrev pub two_way : Kept → Kept → List Edge
-two_way u v = elim (metric_to v.lsa.router u.lsa.links) [
+two_way u v = elim (metric_to v.lsa.key u.lsa.content) [
   | None ↦ []
-  | Some cost ↦ if is_some (metric_to u.lsa.router v.lsa.links) then record { from = u.lsa.router; to = v.lsa.router; cost = cost } ∷ [] else []
+  | Some cost ↦ if is_some (metric_to u.lsa.key v.lsa.content) then record { from = u.lsa.key; to = v.lsa.key; cost = cost } ∷ [] else []
 ]
 
 abbrev pub learned : LinkState → List Edge

@@ -25,15 +25,23 @@ pub record RouterLink : Type 0 where
   pub kind : ℕ
   pub metric : ℕ
 
-pub record RouterLsa : Type 0 where
-  pub router : ℕ
+-- An LSA: the key by which it is kept, its header, and what it says.
+pub record LsaOf (K C : Type 0) : Type 0 where
+  pub key : K
   pub header : LsaHeader
-  pub links : List RouterLink
+  pub content : C
 
--- an instance, and the moment of its installation in seconds
-pub record Kept : Type 0 where
-  pub lsa : RouterLsa
+-- a router LSA is kept by its router, and says the router's links
+abbrev pub RouterLsa : Type 0
+RouterLsa = LsaOf ℕ (List RouterLink)
+
+-- an instance that is kept, and the time of its installation in seconds
+pub record KeptOf (K C : Type 0) : Type 0 where
+  pub lsa : LsaOf K C
   pub since : ℕ
+
+abbrev pub Kept : Type 0
+Kept = KeptOf ℕ (List RouterLink)
 
 -- what is kept, by router
 pub record LinkState : Type 0 where
@@ -49,8 +57,8 @@ kept_of router state = get_at same_number router state.routers
 abbrev pub capped : LsaHeader → LsaHeader
 capped header = record header { age = min header.age max_age }
 
--- the header of a kept instance at a moment: it has aged since its installation
-abbrev pub header_at : ℕ → Kept → LsaHeader
+-- the header of a kept instance at a time: it has aged since its installation
+abbrev pub header_at : {K C : Type 0} → ℕ → KeptOf K C → LsaHeader
 header_at now kept = let header = kept.lsa.header in capped (record header { age = header.age + (now - kept.since) })
 
 -- whether ages differ by more than MaxAgeDiff, the first being the lesser
@@ -82,25 +90,38 @@ against new old =
     if is_more_recent old new then Older else (
     if is_more_recent new old then (if new.age == max_age then Flushed else Newer) else Same)
 
--- the answer to an LSA at a moment
-unfoldable pub installation : ℕ → RouterLsa → LinkState → Installation
-installation now lsa state = elim (kept_of lsa.router state) [
-  | Some kept ↦ against (capped lsa.header) (header_at now kept)
+-- The answer to an LSA at a time, where these instances are kept, by keys that this test compares, and so many may be.
+unfoldable pub answer_to : {K C : Type 0} → (K → K → Bool) → ℕ → ℕ → LsaOf K C → List (K × KeptOf K C) → Installation
+answer_to same most now lsa kept = elim (get_at same lsa.key kept) [
+  | Some instance ↦ against (capped lsa.header) (header_at now instance)
   | None ↦
       if nat_le max_age lsa.header.age then Flushed else (
-      if nat_le most_routers (length state.routers) then Dropped else Newer)
+      if nat_le most (length kept) then Dropped else Newer)
 ]
 
--- the link state after it: a newer instance is kept from that moment on, after a flush none is
+-- what is kept after it: a newer instance from that time on, after a flush none
+unfoldable pub kept_after : {K C : Type 0} → (K → K → Bool) → ℕ → ℕ → LsaOf K C → List (K × KeptOf K C) → List (K × KeptOf K C)
+kept_after same most now lsa kept = elim (answer_to same most now lsa kept) [
+  | Newer ↦ put_at same lsa.key (record { lsa = lsa; since = now }) kept
+  | Flushed ↦ without (same lsa.key) kept
+  | Same ↦ kept
+  | Older ↦ kept
+  | Dropped ↦ kept
+]
+
+-- a time removes each instance whose age reaches MaxAge (section 14)
+abbrev pub kept_young : {K C : Type 0} → ℕ → List (K × KeptOf K C) → List (K × KeptOf K C)
+kept_young now kept = filter (λ entry. nat_lt (header_at now entry.1).age max_age) kept
+
+-- ---- the link state
+
+-- the answer to a router LSA at a time, and the link state after it
+unfoldable pub installation : ℕ → RouterLsa → LinkState → Installation
+installation now lsa state = answer_to same_number most_routers now lsa state.routers
+
 unfoldable pub installed : ℕ → RouterLsa → LinkState → LinkState
-installed now lsa state = elim (installation now lsa state) [
-  | Newer ↦ record { routers = put_at same_number lsa.router (record { lsa = lsa; since = now }) state.routers }
-  | Flushed ↦ record { routers = without (same_number lsa.router) state.routers }
-  | Same ↦ state
-  | Older ↦ state
-  | Dropped ↦ state
-]
+installed now lsa state = record state { routers = kept_after same_number most_routers now lsa state.routers }
 
--- a moment removes each instance whose age reaches MaxAge (section 14)
+-- the link state once a time has come
 unfoldable pub aged : ℕ → LinkState → LinkState
-aged now state = record { routers = filter (λ entry. nat_lt (header_at now entry.1).age max_age) state.routers }
+aged now state = record state { routers = kept_young now state.routers }

@@ -1,5 +1,5 @@
 -- What Link State Updates bring to an area (RFC 2328 sections 13 and A.3.5): router LSAs, and the link state after them.
-use Rattle.std.specs.Prelude.{ℕ, ◌==◌, ◌&&◌, Bool, true, false, List, [], ◌∷◌, ◌++◌, length, map, filter, Result, Ok, Err, if◌then◌else◌}
+use Rattle.std.specs.Prelude.{ℕ, ◌==◌, ◌&&◌, Bool, List, [], ◌∷◌, ◌++◌, map, filter, Result, Ok, Err, if◌then◌else◌}
 use Rattle.std.specs.List.{flat_map}
 use Rattle.rcp_base.specs.OspfPackets.{packet_type, area_id, LINK_STATE_UPDATE}
 use Rattle.rcp_model.specs.declared.lsa_fault.LsaFault.{LsaFault}

@@ -81,9 +81,9 @@ summed octets = drop 2 octets
 -- what the octets say
 abbrev pub lsa_of : List ℕ → RouterLsa
 lsa_of octets = record {
-  router = advertising_router octets;
+  key = advertising_router octets;
   header = record { sequence = sequence_field octets; checksum = checksum_field octets; age = age_field octets };
-  links = unwrap_or (links_in (link_count octets) (drop before_links octets)) [];
+  content = unwrap_or (links_in (link_count octets) (drop before_links octets)) [];
 }
 
 -- each check that a router LSA can fail, with the fault that it is

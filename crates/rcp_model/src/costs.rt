@@ -7,7 +7,7 @@ pub trait Costs {
     ghost use Rattle.std.specs.Prelude.{◌≡◌, List};
     ghost use Rattle.rcp_base.specs.declared.names.Member.{Member};
     ghost use Rattle.rcp_model.specs.declared.event.Edge.{Edge};
-    ghost use Rattle.rcp_model.specs.Control.{slot_cost};
+    ghost use Rattle.rcp_model.specs.RouteServer.{slot_cost};
 
     /// The edges of the interior network.
     ghost edges: { Self → List Edge };

@@ -11,7 +11,7 @@ use Rattle.rcp_model.specs.declared.event.Edge.{Edge}
 use Rattle.rcp_model.specs.Attributes.{canonical_octets, attributes_in}
 use Rattle.rcp_model.specs.Routes.{RouteFields, is_usable}
 use Rattle.rcp_model.specs.Decision.{Contender, contender, unbeaten, has_higher_preference, has_shorter_path, has_lower_origin, has_lower_exit, tied, is_of, is_nearer, nearest, choice}
-use Rattle.rcp_model.specs.Control.{Domain, Announcements, announced_by, announced_at, announcement_contender, cons_some, candidates_from, candidates, router_at, slot_cost, choice_of, unless_own, offer}
+use Rattle.rcp_model.specs.RouteServer.{Domain, Announcements, announced_by, announced_at, announcement_contender, cons_some, candidates_from, candidates, router_at, slot_cost, choice_of, unless_own, offer}
 use Rattle.rcp_model.proofs.FilterLemmas.{front, nearer_of, nearest-front, front-push}
 use Rattle.rcp_model.proofs.OfferLemmas.{offer-fits}
 use Rattle.rcp_run.specs.declared.announcements.Announcement.{Announcement}

@@ -15,7 +15,7 @@ use Rattle.rcp_model.specs.LinkState.{same_number}
 use Rattle.rcp_model.specs.Updates.{Table}
 use Rattle.rcp_model.specs.Edges.{rising_edges}
 use Rattle.rcp_model.specs.Costs.{cost}
-use Rattle.rcp_model.specs.Control.{Domain, Server, Work, same_octets, announced_prefixes, table_of, router_at, cost_between, slot_cost, announced_at, offer, after, after_all}
+use Rattle.rcp_model.specs.RouteServer.{Domain, Server, Work, same_octets, announced_prefixes, table_of, router_at, cost_between, slot_cost, announced_at, offer, after, after_all}
 use Rattle.rcp_model.specs.Sessions.{slot_in}
 use Rattle.rcp_model.specs.Cells.{Cell}
 use Rattle.feed_meaning.specs.Platform.{Connections, Platform, domain_of}
@@ -32,7 +32,7 @@ use Rattle.rcp_run.proofs.RelaxLemmas.{cost-rising}
 use Rattle.rcp_run.proofs.DecisionLemmas.{router_got, router-past}
 use Rattle.rcp_run.proofs.EventLemmas.{server_is}
 
--- ---- the touched prefixes are worked
+-- ---- the pending prefixes are worked
 
 module _ (offers : ℕ → IpPrefix → Option (List ℕ)) where
   told_none : (tables : List (ℕ × Table)) → tables ≡ tables_told offers [] tables
@@ -94,12 +94,12 @@ among-itself [] = tt
 among-itself (p ∷ ps) = (or_left (same_prefix p p) (is_among ps p) (same_prefix-itself p), among-more p ps ps (among-itself ps))
 
 pub work_all : (domain : Domain) (ps : List IpPrefix) (s : Server) → after_all domain (work_events ps) s
-    ≡ record { tables = tables_told (λ slot p. offer domain (announced_at s.announcements p) s.edges slot) ps s.tables; announcements = s.announcements; touched = without_all ps s.touched; edges = s.edges }
+    ≡ record { tables = tables_told (λ slot p. offer domain (announced_at s.announcements p) s.edges slot) ps s.tables; announcements = s.announcements; pending = without_all ps s.pending; edges = s.edges }
 unfolding after_all after
-work_all domain [] s = ap (λ (t : List (ℕ × Table)). let r : Server = record { tables = t; announcements = s.announcements; touched = s.touched; edges = s.edges } in r) (told_none (λ slot p. offer domain (announced_at s.announcements p) s.edges slot) s.tables)
+work_all domain [] s = ap (λ (t : List (ℕ × Table)). let r : Server = record { tables = t; announcements = s.announcements; pending = s.pending; edges = s.edges } in r) (told_none (λ slot p. offer domain (announced_at s.announcements p) s.edges slot) s.tables)
 work_all domain (p ∷ ps) s =
     work_all domain ps (after domain (Work p) s)
-    ∙ ap (λ (t : List (ℕ × Table)). let r : Server = record { tables = t; announcements = s.announcements; touched = without_all (p ∷ ps) s.touched; edges = s.edges } in r)
+    ∙ ap (λ (t : List (ℕ × Table)). let r : Server = record { tables = t; announcements = s.announcements; pending = without_all (p ∷ ps) s.pending; edges = s.edges } in r)
     (told_first (λ slot p. offer domain (announced_at s.announcements p) s.edges slot) p ps s.tables)
 
 told-other : (offers : IpPrefix → Option (List ℕ)) (ps : List IpPrefix) (t : Table) (q : IpPrefix) → is_among ps q ≡ false → get_at same_prefix q (table_told offers ps t) ≡ get_at same_prefix q t
@@ -142,44 +142,44 @@ no_cells (p ∷ ps) = no_cells ps
 
 -- ---- the whole drain
 
-module _ (p : Platform) (rising : IsRising p.server.touched) where
+module _ (p : Platform) (rising : IsRising p.server.pending) where
   abbrev offers : ℕ → IpPrefix → Option (List ℕ)
   offers slot q = offer (domain_of p.roster) (announced_at p.server.announcements q) p.server.edges slot
 
-  pub drained_is : worked_server p.server.touched p ≡ record { tables = tables_told offers p.server.touched p.server.tables; announcements = p.server.announcements; touched = []; edges = p.server.edges }
+  pub drained_is : worked_server p.server.pending p ≡ record { tables = tables_told offers p.server.pending p.server.tables; announcements = p.server.announcements; pending = []; edges = p.server.edges }
   drained_is =
-      work_all (domain_of p.roster) p.server.touched p.server
-      ∙ server_is (record { tables = tables_told offers p.server.touched p.server.tables; announcements = p.server.announcements; touched = without_all p.server.touched p.server.touched; edges = p.server.edges })
-      (record { tables = tables_told offers p.server.touched p.server.tables; announcements = p.server.announcements; touched = []; edges = p.server.edges })
-      refl refl (all_gone p.server.touched p.server.touched (among-itself p.server.touched)) refl
+      work_all (domain_of p.roster) p.server.pending p.server
+      ∙ server_is (record { tables = tables_told offers p.server.pending p.server.tables; announcements = p.server.announcements; pending = without_all p.server.pending p.server.pending; edges = p.server.edges })
+      (record { tables = tables_told offers p.server.pending p.server.tables; announcements = p.server.announcements; pending = []; edges = p.server.edges })
+      refl refl (all_gone p.server.pending p.server.pending (among-itself p.server.pending)) refl
 
-  slot_told : (slot : ℕ) → messages_of (get_at same_number slot (messages_told offers p.server.touched p.server.tables))
-      ≡ updates_for (changed_cells p.server.touched (table_of p.server slot) (get_at same_number slot (tables_told offers p.server.touched p.server.tables)))
+  slot_told : (slot : ℕ) → messages_of (get_at same_number slot (messages_told offers p.server.pending p.server.tables))
+      ≡ updates_for (changed_cells p.server.pending (table_of p.server slot) (get_at same_number slot (tables_told offers p.server.pending p.server.tables)))
   slot_told slot =
-      rw (messages-told offers p.server.touched p.server.tables slot, table-told offers p.server.touched p.server.tables slot) (told (get_at same_number slot p.server.tables)) where
-        told : (t : Option Table) → messages_of (option_map (updates_told (offers slot) p.server.touched) t) ≡ updates_for (changed_cells p.server.touched t (option_map (table_told (offers slot) p.server.touched) t))
-        told None = sym (no_cells p.server.touched)
-        told (Some t) = sym (cells-told (offers slot) p.server.touched t t rising (λ q inside. refl))
+      rw (messages-told offers p.server.pending p.server.tables slot, table-told offers p.server.pending p.server.tables slot) (told (get_at same_number slot p.server.tables)) where
+        told : (t : Option Table) → messages_of (option_map (updates_told (offers slot) p.server.pending) t) ≡ updates_for (changed_cells p.server.pending t (option_map (table_told (offers slot) p.server.pending) t))
+        told None = sym (no_cells p.server.pending)
+        told (Some t) = sym (cells-told (offers slot) p.server.pending t t rising (λ q inside. refl))
 
-  pub records_are : records_told (messages_told offers p.server.touched p.server.tables) p.connections ≡ work_updates p.server.touched p
+  pub records_are : records_told (messages_told offers p.server.pending p.server.tables) p.connections ≡ work_updates p.server.pending p
   records_are = rw drained_is (each p.connections) where
-    of_slot : (o : Option ℕ) → told_to (messages_told offers p.server.touched p.server.tables) o
-        ≡ slot_updates p.server.touched p.server (record { tables = tables_told offers p.server.touched p.server.tables; announcements = p.server.announcements; touched = []; edges = p.server.edges }) o
+    of_slot : (o : Option ℕ) → told_to (messages_told offers p.server.pending p.server.tables) o
+        ≡ slot_updates p.server.pending p.server (record { tables = tables_told offers p.server.pending p.server.tables; announcements = p.server.announcements; pending = []; edges = p.server.edges }) o
     of_slot None = refl
     of_slot (Some slot) = slot_told slot
 
-    each : (es : Connections) → records_told (messages_told offers p.server.touched p.server.tables) es
-        ≡ updates_sent p.server.touched p.server (record { tables = tables_told offers p.server.touched p.server.tables; announcements = p.server.announcements; touched = []; edges = p.server.edges }) es
+    each : (es : Connections) → records_told (messages_told offers p.server.pending p.server.tables) es
+        ≡ updates_sent p.server.pending p.server (record { tables = tables_told offers p.server.pending p.server.tables; announcements = p.server.announcements; pending = []; edges = p.server.edges }) es
     each [] = refl
     each (e ∷ es) =
-        ap (λ (l : List (List ℕ)). messages_to e.0 l ++ records_told (messages_told offers p.server.touched p.server.tables) es) (of_slot (slot_in e.1.phase))
-        ∙ ap (λ (l : List OutRecord). messages_to e.0 (slot_updates p.server.touched p.server (record { tables = tables_told offers p.server.touched p.server.tables; announcements = p.server.announcements; touched = []; edges = p.server.edges }) (slot_in e.1.phase)) ++ l) (each es)
+        ap (λ (l : List (List ℕ)). messages_to e.0 l ++ records_told (messages_told offers p.server.pending p.server.tables) es) (of_slot (slot_in e.1.phase))
+        ∙ ap (λ (l : List OutRecord). messages_to e.0 (slot_updates p.server.pending p.server (record { tables = tables_told offers p.server.pending p.server.tables; announcements = p.server.announcements; pending = []; edges = p.server.edges }) (slot_in e.1.phase)) ++ l) (each es)
 
   pub drain_is : (q : Platform) → q.roster ≡ p.roster → q.connections ≡ p.connections → q.moment ≡ p.moment → q.stream ≡ p.stream → q.link_state ≡ p.link_state
-      → q.server.tables ≡ tables_told offers p.server.touched p.server.tables → q.server.announcements ≡ p.server.announcements → q.server.touched ≡ [] → q.server.edges ≡ p.server.edges
-      → q.updates ≡ min (p.updates + length (work_updates p.server.touched p)) (2 ^ 64 - 1) → q ≡ (drain_act p).after
-  drain_is q roster connections moment stream links tables announcements touched edges updates =
-      let server : q.server ≡ worked_server p.server.touched p = server_is q.server (record { tables = tables_told offers p.server.touched p.server.tables; announcements = p.server.announcements; touched = []; edges = p.server.edges }) tables announcements touched edges ∙ sym drained_is in
+      → q.server.tables ≡ tables_told offers p.server.pending p.server.tables → q.server.announcements ≡ p.server.announcements → q.server.pending ≡ [] → q.server.edges ≡ p.server.edges
+      → q.updates ≡ min (p.updates + length (work_updates p.server.pending p)) (2 ^ 64 - 1) → q ≡ (drain_act p).after
+  drain_is q roster connections moment stream links tables announcements pending edges updates =
+      let server : q.server ≡ worked_server p.server.pending p = server_is q.server (record { tables = tables_told offers p.server.pending p.server.tables; announcements = p.server.announcements; pending = []; edges = p.server.edges }) tables announcements pending edges ∙ sym drained_is in
       λ i. record { roster = roster i; connections = connections i; moment = moment i; stream = stream i; link_state = links i; server = server i; updates = updates i }
 
 -- ---- the prefixes for one router, one after another

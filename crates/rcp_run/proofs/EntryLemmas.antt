@@ -4,7 +4,7 @@ use Rattle.std.specs.Prelude.{is_some}
 use Rattle.std.specs.List.{list_any, position, AllByRecursion}
 use Rattle.std.proofs.lemmas.Bool.{cases_Bool, or_parts}
 use Rattle.rcp_base.specs.IpPrefix.{IpPrefix}
-use Rattle.rcp_model.specs.Control.{same_place, same_octets, announced_by}
+use Rattle.rcp_model.specs.RouteServer.{same_place, same_octets, announced_by}
 use Rattle.rcp_run.specs.declared.announcements.Announcement.{Announcement}
 use Rattle.rcp_run.specs.State.{entry_in, announcements_in, entry_at}
 use Rattle.rcp_run.proofs.ListMaps.{IsPlace, place_is, no_place}

@@ -7,7 +7,7 @@ use Rattle.rcp_base.specs.IpPrefix.{IpPrefix}
 use Rattle.rcp_model.specs.Maps.{get_at, put_at, set_at, without, include, include_all}
 use Rattle.rcp_model.specs.LinkState.{same_number}
 use Rattle.rcp_model.specs.Updates.{Table}
-use Rattle.rcp_model.specs.Control.{Domain, Place, Announcements, Server, ServerEvent, Up, Down, Change, same_place, same_octets, announced_by, announced_prefixes, of_slot, is_connected, after, after_all}
+use Rattle.rcp_model.specs.RouteServer.{Domain, Place, Announcements, Server, ServerEvent, Up, Down, Change, same_place, same_octets, announced_by, announced_prefixes, of_slot, is_connected, after, after_all}
 use Rattle.rcp_model.specs.Sessions.{Doing}
 use Rattle.rcp_model.specs.Telling.{IsTold}
 use Rattle.feed_meaning.specs.SessionTurns.{server_event, seat_events, end_events}
@@ -20,8 +20,8 @@ use Rattle.rcp_run.specs.declared.announcements.Announcement.{Announcement}
 use Rattle.rcp_run.specs.declared.engine.events.Router.{Router}
 use Rattle.rcp_run.specs.State.{IsKept, entry_in, announcements_in, router_in, tables_in}
 
-pub server_is : (s t : Server) → s.tables ≡ t.tables → s.announcements ≡ t.announcements → s.touched ≡ t.touched → s.edges ≡ t.edges → s ≡ t
-server_is s t a b c d = λ i. record { tables = a i; announcements = b i; touched = c i; edges = d i }
+pub server_is : (s t : Server) → s.tables ≡ t.tables → s.announcements ≡ t.announcements → s.pending ≡ t.pending → s.edges ≡ t.edges → s ≡ t
+server_is s t a b c d = λ i. record { tables = a i; announcements = b i; pending = c i; edges = d i }
 
 -- ---- maps
 
@@ -66,27 +66,27 @@ set_same key (Some value) m is = put_same same_place place_test key value m is
 -- ---- a router comes up
 
 pub raised : (domain : Domain) (s t : Server) (slot : ℕ) → t.tables ≡ put_at same_number slot [] s.tables → t.announcements ≡ s.announcements
-    → t.touched ≡ include_all (announced_prefixes s.announcements) s.touched → t.edges ≡ s.edges → t ≡ after domain (Up slot) s
+    → t.pending ≡ include_all (announced_prefixes s.announcements) s.pending → t.edges ≡ s.edges → t ≡ after domain (Up slot) s
 unfolding after
-raised domain s t slot tables announcements touched edges =
-    server_is t (record s { tables = put_at same_number slot [] s.tables; touched = include_all (announced_prefixes s.announcements) s.touched }) tables announcements touched edges
+raised domain s t slot tables announcements pending edges =
+    server_is t (record s { tables = put_at same_number slot [] s.tables; pending = include_all (announced_prefixes s.announcements) s.pending }) tables announcements pending edges
 
 -- ---- what a slot announces at a prefix changes
 
 pub changed_server : (domain : Domain) (s t : Server) (slot : ℕ) (p : IpPrefix) (octets : Option (List ℕ)) → is_connected s slot ≡ true
     → true ≡ not (same_octets (announced_by s.announcements slot p) octets) → t.tables ≡ s.tables → t.announcements ≡ set_at same_place (slot, p) octets s.announcements
-    → t.touched ≡ include p s.touched → t.edges ≡ s.edges → t ≡ after domain (Change slot p octets) s
+    → t.pending ≡ include p s.pending → t.edges ≡ s.edges → t ≡ after domain (Change slot p octets) s
 unfolding after
-changed_server domain s t slot p octets connected other tables announcements touched edges =
-    rw (connected, ← other) (server_is t (record s { announcements = set_at same_place (slot, p) octets s.announcements; touched = include p s.touched }) tables announcements touched edges)
+changed_server domain s t slot p octets connected other tables announcements pending edges =
+    rw (connected, ← other) (server_is t (record s { announcements = set_at same_place (slot, p) octets s.announcements; pending = include p s.pending }) tables announcements pending edges)
 
 pub kept_server : (domain : Domain) (s t : Server) (slot : ℕ) (p : IpPrefix) (octets : Option (List ℕ)) → is_connected s slot ≡ true
     → false ≡ not (same_octets (announced_by s.announcements slot p) octets) → t.tables ≡ s.tables → t.announcements ≡ set_at same_place (slot, p) octets s.announcements
-    → t.touched ≡ s.touched → t.edges ≡ s.edges → t ≡ after domain (Change slot p octets) s
+    → t.pending ≡ s.pending → t.edges ≡ s.edges → t ≡ after domain (Change slot p octets) s
 unfolding after
-kept_server domain s t slot p octets connected same tables announcements touched edges =
+kept_server domain s t slot p octets connected same tables announcements pending edges =
     let known : announced_by s.announcements slot p ≡ octets = same_octets-is (announced_by s.announcements slot p) octets (not-false _ (sym same)) in
-    rw (connected, ← same) (server_is t s tables (announcements ∙ set_same (slot, p) octets s.announcements known) touched edges)
+    rw (connected, ← same) (server_is t s tables (announcements ∙ set_same (slot, p) octets s.announcements known) pending edges)
 
 pub unheard : (domain : Domain) (s : Server) (slot : ℕ) (p : IpPrefix) (octets : Option (List ℕ)) → is_connected s slot ≡ false → s ≡ after domain (Change slot p octets) s
 unfolding after
@@ -113,18 +113,18 @@ gone_announcements slot (a ∷ entries) =
 
 pub lowered : (domain : Domain) (s t : Server) (slot : ℕ) (routers : List Router) (entries : List Announcement) → s.tables ≡ tables_in routers → s.announcements ≡ announcements_in entries
     → t.tables ≡ tables_in (filter (λ (r : Router). not (eqb r.slot slot)) routers) → t.announcements ≡ announcements_in (filter (λ (a : Announcement). not (eqb a.slot slot)) entries)
-    → t.touched ≡ include_all (announced_prefixes (of_slot slot s.announcements)) s.touched → t.edges ≡ s.edges → t ≡ after domain (Down slot) s
+    → t.pending ≡ include_all (announced_prefixes (of_slot slot s.announcements)) s.pending → t.edges ≡ s.edges → t ≡ after domain (Down slot) s
 unfolding after
-lowered domain s t slot routers entries tables announced tables' announced' touched edges =
+lowered domain s t slot routers entries tables announced tables' announced' pending edges =
     server_is t (record {
       tables = without (same_number slot) s.tables;
       announcements = filter (λ (entry : Place × List ℕ). not (eqb entry.0.0 slot)) s.announcements;
-      touched = include_all (announced_prefixes (of_slot slot s.announcements)) s.touched;
+      pending = include_all (announced_prefixes (of_slot slot s.announcements)) s.pending;
       edges = s.edges;
     })
     (tables' ∙ gone_tables slot routers ∙ ap (without (same_number slot)) (sym tables))
     (announced' ∙ gone_announcements slot entries ∙ ap (filter (λ (entry : Place × List ℕ). not (eqb entry.0.0 slot))) (sym announced))
-    touched edges
+    pending edges
 
 pub all_filter : {X : Type 0} (P : X → Type 0) (test : X → Bool) (xs : List X) → AllByRecursion P xs → AllByRecursion P (filter test xs)
 all_filter P test [] all = tt

@@ -12,7 +12,7 @@ use Rattle.rcp_model.specs.Rosters.{RosterOf}
 use Rattle.rcp_model.specs.declared.event.Edge.{Edge}
 use Rattle.rcp_model.specs.LinkState.{LinkState, aged}
 use Rattle.rcp_model.specs.Edges.{rising_edges, edges_of}
-use Rattle.rcp_model.specs.Control.{Server, Links, after}
+use Rattle.rcp_model.specs.RouteServer.{Server, Links, after}
 use Rattle.rcp_model.proofs.LinkEventLemmas.{links-same}
 use Rattle.rcp_base.specs.Feed.{OutRecord}
 use Rattle.feed_meaning.specs.Platform.{Platform, domain_of}

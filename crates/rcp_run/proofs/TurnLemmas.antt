@@ -8,7 +8,7 @@ use Rattle.rcp_base.specs.Feed.{OutRecord}
 use Rattle.rcp_model.specs.Rosters.{RosterOf}
 use Rattle.rcp_model.specs.Maps.{set_at, without}
 use Rattle.rcp_model.specs.LinkState.{same_number}
-use Rattle.rcp_model.specs.Control.{Domain, Server, after, after_all}
+use Rattle.rcp_model.specs.RouteServer.{Domain, Server, after, after_all}
 use Rattle.rcp_model.specs.Sessions.{SessionState, Input, Octets, Seat, Moment, Answer, Doing, is_closed, then_also, answer, begun, begun_established, stepped, seat_taken, seat_of}
 use Rattle.rcp_model.specs.Telling.{AreOctets, BringsOctets, IsTold}
 use Rattle.feed_meaning.specs.Platform.{Connections, Platform, domain_of}

@@ -10,17 +10,17 @@ use Rattle.rcp_model.specs.Maps.{get_at, set_at, same_prefix, is_before}
 use Rattle.rcp_model.specs.Rising.{IsRising}
 use Rattle.rcp_model.specs.LinkState.{LinkState, same_number}
 use Rattle.feed_meaning.specs.LinkStream.{Reading}
-use Rattle.rcp_model.specs.Edges.{rising_edges}
-use Rattle.rcp_model.specs.declared.event.Edge.{Edge}
-use Rattle.rcp_model.specs.Costs.{Walk}
-use Rattle.rcp_model.specs.Control.{Place, Announcements, same_place, same_octets, router_at, announced_at, offer}
-use Rattle.rcp_model.specs.Control as control
-use Rattle.rcp_model.specs.Updates.{Table}
-use Rattle.rcp_model.specs.Sessions.{SessionState, slot_in}
-use Rattle.rcp_model.specs.Telling.{AreOctets, IsRouteOf}
 use Rattle.feed_meaning.specs.Platform.{Connections, Platform, domain_of}
 use Rattle.feed_meaning.specs.Work.{cell_update}
 use Rattle.feed_meaning.specs.OutRecords.{messages_to}
+use Rattle.rcp_model.specs.Edges.{rising_edges}
+use Rattle.rcp_model.specs.declared.event.Edge.{Edge}
+use Rattle.rcp_model.specs.Costs.{Walk}
+use Rattle.rcp_model.specs.RouteServer.{Place, Announcements, same_place, same_octets, router_at, announced_at, offer}
+use Rattle.rcp_model.specs.RouteServer as control
+use Rattle.rcp_model.specs.Updates.{Table}
+use Rattle.rcp_model.specs.Sessions.{SessionState, slot_in}
+use Rattle.rcp_model.specs.Telling.{AreOctets, IsRouteOf}
 use Rattle.rcp_run.specs.declared.announcements.Announcement.{Announcement}
 use Rattle.rcp_run.specs.declared.table.Cell.{Cell}
 use Rattle.rcp_run.specs.declared.costs.Reached.{Reached}
@@ -54,7 +54,7 @@ abbrev pub server_in : List Edge → Server → control.Server
 server_in links server = record {
   tables = tables_in server.tables.items;
   announcements = announcements_in server.announcements.items;
-  touched = server.touched.items;
+  pending = server.pending.items;
   edges = rising_edges links;
 }
 
@@ -83,7 +83,7 @@ IsKept as_number a = IsRouteOf as_number a.route
 
 pub record IsServer (as_number : ℕ) (server : Server) : Type 0 where
   pub routes : AllByRecursion (IsKept as_number) server.announcements.items
-  pub rising : IsRising server.touched.items
+  pub rising : IsRising server.pending.items
 
 -- a session for which there was memory so far, and which keeps octets
 pub record IsWhole (c : Connection) : Type 0 where

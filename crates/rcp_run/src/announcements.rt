@@ -2,7 +2,7 @@
 ghost use Rattle.std.specs.Prelude.{◌≡◌, ◌==◌, ℕ, not, filter, option_copied, OnOk, IfOk, Some, None, bytes_eq};
 ghost use Rattle.std.specs.List.{position, AllByRecursion};
 ghost use Rattle.rcp_model.specs.Maps.{put_at, without};
-ghost use Rattle.rcp_model.specs.Control.{same_place, same_octets, announced_by};
+ghost use Rattle.rcp_model.specs.RouteServer.{same_place, same_octets, announced_by};
 ghost use Rattle.rcp_model.specs.Routes.{is_usable};
 ghost use Rattle.rcp_model.specs.Telling.{IsRouteOf};
 ghost use Rattle.rcp_run.specs.State.{announcements_in, entry_in, entry_at, IsKept};

@@ -9,7 +9,7 @@
 //! that tells its octets it says more: `Done` comes only at the feed's Z, `Feed` exactly at the first faulty record,
 //! `Roster` at the first faulty line of the roster, and what was written is exactly the output of the whole records that
 //! were taken, but for a part of the last one's after a failed write. So the octets sent to a connected router,
-//! replayed, give for each prefix that isn't touched exactly what the router is offered.
+//! replayed, give for each prefix that isn't pending exactly what the router is offered.
 //!
 //! ```text
 //! let status = run(&rt, rt.alloc(), &["replay"], &mut source, &mut sink);

@@ -2,7 +2,7 @@
 ghost use Rattle.std.specs.Prelude.{◌≡◌, [], not, ◌||◌, OnOk, IfOk};
 ghost use Rattle.std.specs.List.{position};
 ghost use Rattle.rcp_model.specs.Maps.{include, include_all, same_prefix, is_before};
-ghost use Rattle.rcp_model.specs.Control.{announced_prefixes, of_slot};
+ghost use Rattle.rcp_model.specs.RouteServer.{announced_prefixes, of_slot};
 ghost use Rattle.rcp_run.specs.State.{announcements_in};
 
 use crate::announcements::Announcement;

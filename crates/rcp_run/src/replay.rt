@@ -51,7 +51,7 @@ pub fn run<R: Threads + Sync, S: Source, K: Sink>(
         → WroteSo result octets (S.left source.new) (K.taken sink.old) (K.taken sink.new) }
 
     // The headline: for the records whose output was wholly written, each connected router was sent octets that replay,
-    // at each prefix that isn't touched, to exactly what it is offered.
+    // at each prefix that isn't pending, to exactly what it is offered.
     ensures headline { (octets written : List ℕ) → S.left source.old ≡ Some octets → AreOctets octets
         → K.taken sink.new ≡ behind (K.taken sink.old) written → HeadlineWritten (narrowed octets) written }
 

@@ -2,7 +2,7 @@
 ghost use Rattle.std.specs.Prelude.{◌≡◌, not, is_some, OnOk, IfOk, Some};
 ghost use Rattle.std.specs.List.{position};
 ghost use Rattle.rcp_model.specs.Maps.{get_at, put_at, without, same_prefix};
-ghost use Rattle.rcp_model.specs.Control.{same_octets};
+ghost use Rattle.rcp_model.specs.RouteServer.{same_octets};
 ghost use Rattle.rcp_run.specs.State.{table_in};
 
 use rcp_base::{NoMemory, Prefix};

@@ -4,7 +4,7 @@ ghost use Rattle.std.specs.Prelude.{◌≡◌, ◌≢◌, ℕ, ◌<◌, ◌↔�
 ghost use Rattle.rcp_base.specs.declared.names.Member.{Member};
 ghost use Rattle.rcp_model.specs.declared.event.Edge.{Edge};
 ghost use Rattle.rcp_model.specs.Decision.{Contender, tied, IsNearest};
-ghost use Rattle.rcp_model.specs.Control.{Domain, Announced, slot_cost, candidates, choice_of, offer, IsCandidate};
+ghost use Rattle.rcp_model.specs.RouteServer.{Domain, Announced, slot_cost, candidates, choice_of, offer, IsCandidate};
 
 /// The candidates are the members with a usable announcement of the prefix and a cost from the router, in roster order.
 pub fn candidates_are_usable_and_reached()

@@ -5,7 +5,7 @@ ghost use Rattle.std.specs.List.{flat_map, position, AllByRecursion};
 ghost use Rattle.rcp_model.specs.Maps.{get_at, set_at, same_prefix};
 ghost use Rattle.rcp_model.specs.Edges.{rising_edges};
 ghost use Rattle.rcp_model.specs.LinkState.{same_number};
-ghost use Rattle.rcp_model.specs.Control.{slot_cost};
+ghost use Rattle.rcp_model.specs.RouteServer.{slot_cost};
 ghost use Rattle.rcp_model.specs.Sessions.{slot_in};
 ghost use Rattle.feed_meaning.specs.Work.{drain_act};
 ghost use Rattle.feed_meaning.specs.OutRecords.{summary, messages_to};
@@ -36,7 +36,7 @@ impl Engine {
         ensures sound { OnOk result (IsSound self.new) }
     {
         let told = work(self.alloc, &self.roster, &mut self.server)?;
-        self.server.touched.clear();
+        self.server.pending.clear();
         let mut out = records_of(self.alloc, &self.connections, &told)?;
         self.updates = self.updates.saturating_add(out.len() as u64);
         self.summarize(&mut out)?;
@@ -65,11 +65,11 @@ impl Engine {
 fn work(alloc: Global, roster: &Roster, server: &mut Server) -> Result<Vec<Told>, NoMemory>
     requires { AllByRecursion (IsKept roster.now.as_number) server.old.announcements.items }
     ensures tables { OnOk result (tables_in server.new.tables.items
-        ≡ tables_told (offers_to roster.now server.old.announcements.items) server.old.touched.items (tables_in server.old.tables.items)) }
+        ≡ tables_told (offers_to roster.now server.old.announcements.items) server.old.pending.items (tables_in server.old.tables.items)) }
     ensures announcements { OnOk result (server.new.announcements ≡ server.old.announcements) }
-    ensures touched { OnOk result (server.new.touched ≡ server.old.touched) }
+    ensures pending { OnOk result (server.new.pending ≡ server.old.pending) }
     ensures told { IfOk result (λ told. told_in told.items
-        ≡ messages_told (offers_to roster.now server.old.announcements.items) server.old.touched.items (tables_in server.old.tables.items)) }
+        ≡ messages_told (offers_to roster.now server.old.announcements.items) server.old.pending.items (tables_in server.old.tables.items)) }
 {
     let mut told = Vec::new(alloc);
     for place in 0..server.tables.len() {
@@ -78,7 +78,7 @@ fn work(alloc: Global, roster: &Roster, server: &mut Server) -> Result<Vec<Told>
             alloc,
             roster,
             &server.announcements,
-            &server.touched,
+            &server.pending,
             router.slot,
             &mut router.table,
         )?;

@@ -5,7 +5,7 @@ ghost use Rattle.std.specs.List.{position, AllByRecursion};
 ghost use Rattle.rcp_model.specs.Maps.{put_at};
 ghost use Rattle.rcp_model.specs.LinkState.{same_number};
 ghost use Rattle.rcp_model.specs.declared.event.Edge.{Edge};
-ghost use Rattle.rcp_model.specs.Control.{Domain, Up, Down, Change, after, after_all, is_connected};
+ghost use Rattle.rcp_model.specs.RouteServer.{Domain, Up, Down, Change, after, after_all, is_connected};
 ghost use Rattle.rcp_model.specs.Telling.{IsRouteOf, IsTold};
 ghost use Rattle.feed_meaning.specs.SessionTurns.{server_event};
 ghost use Rattle.session_core.specs.Shown.{event_of};
@@ -33,7 +33,7 @@ pub struct Server {
     pub tables: Vec<Router>,
     pub announcements: Vec<Announcement>,
     /// The pending prefixes, rising.
-    pub touched: Vec<Prefix>,
+    pub pending: Vec<Prefix>,
 }
 
 impl Server {
@@ -41,12 +41,12 @@ impl Server {
     pub fn new(alloc: Global) -> Server
         ensures tables { result.tables.items ≡ [] }
         ensures announcements { result.announcements.items ≡ [] }
-        ensures touched { result.touched.items ≡ [] }
+        ensures pending { result.pending.items ≡ [] }
     {
         Server {
             tables: Vec::new(alloc),
             announcements: Vec::new(alloc),
-            touched: Vec::new(alloc),
+            pending: Vec::new(alloc),
         }
     }
 
@@ -91,7 +91,7 @@ impl Server {
             table: Vec::new(alloc),
         };
         put_router(&mut self.tables, router)?;
-        add_announced(&mut self.touched, &self.announcements)
+        add_announced(&mut self.pending, &self.announcements)
     }
 
     /// The seat of the router is given up: what it announced is gone, and each prefix of it becomes pending.
@@ -99,7 +99,7 @@ impl Server {
         ensures server { (domain : Domain) (links : List Edge) → OnOk result (server_in links self.new ≡ after domain (Down slot) (server_in links self.old)) }
         ensures sound { (as_number : ℕ) → IsServer as_number self.old → OnOk result (IsServer as_number self.new) }
     {
-        add_announced_by(&mut self.touched, &self.announcements, slot)?;
+        add_announced_by(&mut self.pending, &self.announcements, slot)?;
         drop_all(&mut self.announcements, slot);
         self.tables.retain(|router| router.slot != slot);
         Ok(())
@@ -115,7 +115,7 @@ impl Server {
             return Ok(());
         }
         if announce(&mut self.announcements, slot, prefix, route)? {
-            add(&mut self.touched, prefix)?;
+            add(&mut self.pending, prefix)?;
         }
         Ok(())
     }
@@ -130,7 +130,7 @@ impl Server {
             return Ok(());
         }
         if withdraw(&mut self.announcements, slot, prefix) {
-            add(&mut self.touched, prefix)?;
+            add(&mut self.pending, prefix)?;
         }
         Ok(())
     }

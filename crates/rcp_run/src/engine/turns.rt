@@ -6,7 +6,7 @@ ghost use Rattle.rcp_base.specs.Feed.{moment_of};
 ghost use Rattle.rcp_model.specs.LinkState.{same_number};
 ghost use Rattle.rcp_model.specs.declared.event.Edge.{Edge};
 ghost use Rattle.rcp_model.specs.Rosters.{RosterOf};
-ghost use Rattle.rcp_model.specs.Control.{Domain, after_all};
+ghost use Rattle.rcp_model.specs.RouteServer.{Domain, after_all};
 ghost use Rattle.rcp_model.specs.Sessions.{Moment, End, Doing, is_closed, then_also, seat_taken, seat_of};
 ghost use Rattle.rcp_model.specs.Telling.{AreOctets, IsTold};
 ghost use Rattle.feed_meaning.specs.Platform.{Platform};

@@ -1,6 +1,6 @@
 use Rattle.std.proofs.Common.{option_map, refl, sym, ◌∙◌, ap, arith, eqb-true}
 use Rattle.decision.specs.declared.choosing.Rival.{Rival}
-use Rattle.rcp_model.specs.Control.{slot_cost}
+use Rattle.rcp_model.specs.RouteServer.{slot_cost}
 use Rattle.decision.proofs.ChoosingLemmas.{passed_beaten, passed_tied, passed_own, passed_all, passed_nothing}
 use Rattle.decision.proofs.choosing.choose.Goals as goal
 

@@ -1,4 +1,4 @@
-use Rattle.rcp_model.specs.Control.{slot_cost}
+use Rattle.rcp_model.specs.RouteServer.{slot_cost}
 use Rattle.decision.proofs.ChoosingLemmas.{Passed}
 use Rattle.decision.proofs.choosing.choose.Given as goal
 

@@ -13,8 +13,8 @@ loop-i-preserved c =
 pub returns : goal.returns
 returns c =
     let header = header_octets 0 0 c.args.lsa.now in
-    let links : c.deref-link-items.result.now ≡ c.args.lsa.now.links =
-    c.deref-link-items.ensures.value ∙ ap (λ (l : RouterLsa). l.links) c.lsa.view_is in
+    let links : c.deref-link-items.result.now ≡ c.args.lsa.now.content =
+    c.deref-link-items.ensures.value ∙ ap (λ (l : RouterLsa). l.content) c.lsa.view_is in
     let count = ap length links in
     let exact : length c.loop-i.out ≡ 24 + 12 * length c.deref-link-items.result.now = omega (arith, count) in
     let out = all_written header c.loop-i.out c.deref-link-items.result.now c.loop-i.i exact c.loop-i.auto.i-end c.loop-i-test.false c.loop-i.invariant

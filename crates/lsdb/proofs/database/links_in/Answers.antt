@@ -11,7 +11,7 @@ loop-router-init c = ap₂ (λ found left. found ++ links_in left) c.new-links.e
 
 pub loop-router-preserved : goal.loop-router-preserved
 loop-router-preserved c =
-    let links = c.as_slice.ensures.value ∙ ap (λ (i : _). i.lsa.links) c.instance-inside.view_is ∙ ap (λ (k : Kept). k.lsa.links) c.instance.view_is in
+    let links = c.as_slice.ensures.value ∙ ap (λ (i : _). i.lsa.content) c.instance-inside.view_is ∙ ap (λ (k : Kept). k.lsa.content) c.instance.view_is in
     links-more c.loop-router.links.items c.add_links.new.edges.items c.in-Some.router.now c.in-Some.instance.now c.as_slice.result.now c.next.new.self c.loop-router.router-iterator c.args.routers.now.entries
     c.in-Some.ensures.steps links c.in_ok-add_links.ensures c.loop-router.invariant
 

@@ -1,6 +1,6 @@
 use Rattle.std.proofs.Common.{ap, sym, refl, ◌∙◌, ℕ, List, Option, not}
 use Rattle.std.specs.Prelude.{Some}
-use Rattle.rcp_model.specs.Control.{same_place, same_octets}
+use Rattle.rcp_model.specs.RouteServer.{same_place, same_octets}
 use Rattle.rcp_model.proofs.ServerLemmas.{place_test}
 use Rattle.rcp_run.specs.State.{entry_in}
 use Rattle.rcp_run.proofs.ListMaps.{nothing_there, there, pushed, written}

@@ -2,7 +2,7 @@
 use Rattle.std.proofs.Common.{◌≡◌, ℕ, vec_len}
 use Rattle.std.specs.List.{AllByRecursion}
 use Rattle.rcp_model.specs.Maps.{without}
-use Rattle.rcp_model.specs.Control.{same_place}
+use Rattle.rcp_model.specs.RouteServer.{same_place}
 use Rattle.rcp_run.specs.State.{announcements_in, IsKept}
 use Rattle.rcp_run.proofs.announcements.withdraw.Given as goal
 

@@ -9,7 +9,7 @@ use Rattle.lsdb.proofs.database.Lsdb.install.Goals as goal
 
 pub invariant_of-self : goal.invariant_of-self
 invariant_of-self c =
-    kept-changed c.args.lsa.router _ c.self.inside.routers.entries c.keep.new.routers.entries c.in_ok-keep-in-Newer.ensures.ok refl c.self.invariant
+    kept-changed c.args.lsa.key _ c.self.inside.routers.entries c.keep.new.routers.entries c.in_ok-keep-in-Newer.ensures.ok refl c.self.invariant
     (newer-place c.args.now c.args.lsa c.self.inside.routers.entries c.self.invariant (ap installation_of (sym c.in-Newer.is) ∙ c.judge-answer.ensures))
 
 pub invariant_of-self-in-Flushed-1 : goal.invariant_of-self-in-Flushed-1
@@ -22,7 +22,7 @@ returns-in_ok-keep-in-Newer-clause-answer c state holds =
 
 pub returns-in_ok-keep-in-Newer-clause-after : goal.returns-in_ok-keep-in-Newer-clause-after
 returns-in_ok-keep-in-Newer-clause-after c state holds =
-    holds-newer c.args.now c.args.lsa c.args.lsa.router c.self.inside.routers.entries c.keep.new.routers.entries state c.self.invariant
+    holds-newer c.args.now c.args.lsa c.args.lsa.key c.self.inside.routers.entries c.keep.new.routers.entries state c.self.invariant
     (subst (λ (d : Database). Holds d.state state) (sym c.self.view_is) holds) refl c.in_ok-keep-in-Newer.ensures.ok (ap installation_of (sym c.in-Newer.is) ∙ c.judge-answer.ensures)
 
 pub returns-in-Flushed-clause-answer : goal.returns-in-Flushed-clause-answer
@@ -33,7 +33,7 @@ returns-in-Flushed-clause-answer c state holds =
 pub returns-in-Flushed-clause-after : goal.returns-in-Flushed-clause-after
 returns-in-Flushed-clause-after c state holds =
     holds-flushed c.args.now c.args.lsa c.lsa.inside.router c.self.inside.routers.entries c.remove.new.routers.entries state c.self.invariant
-    (subst (λ (d : Database). Holds d.state state) (sym c.self.view_is) holds) (ap (λ (l : RouterLsa). l.router) c.lsa.view_is) c.remove.ensures (ap installation_of (sym c.in-Flushed.is) ∙ c.judge-answer.ensures)
+    (subst (λ (d : Database). Holds d.state state) (sym c.self.view_is) holds) (ap (λ (l : RouterLsa). l.key) c.lsa.view_is) c.remove.ensures (ap installation_of (sym c.in-Flushed.is) ∙ c.judge-answer.ensures)
 
 pub returns-in-Same : goal.returns-in-Same
 returns-in-Same c = record {

@@ -13,7 +13,7 @@ use Rattle.rcp_run.specs.State.{announcements_in, connections_in, server_in, pla
 use Rattle.rcp_run.proofs.DrainLemmas.{records_are, drain_is}
 use Rattle.rcp_run.proofs.engine.Engine.drain.Goals as goal
 
-messages : (c : goal.After-drop-told-2) → c.in_ok-out.out.items ≡ work_updates (platform_in c.args.self.now).server.touched (platform_in c.args.self.now)
+messages : (c : goal.After-drop-told-2) → c.in_ok-out.out.items ≡ work_updates (platform_in c.args.self.now).server.pending (platform_in c.args.self.now)
 messages c =
     let e = c.args.self.now in
     c.in_ok-out.ensures.records
@@ -22,10 +22,10 @@ messages c =
     ∙ ap (λ l. records_told l (connections_in e.connections.items)) c.in_ok-told.ensures.told
     ∙ records_are (platform_in e) c.requires.server.rising
 
-drains : (c : goal.After-drop-told-2) → (let new : Engine = record c.args.self.now { server = record { tables = c.work.new.server.tables; announcements = c.work.new.server.announcements; touched = c.clear.new.self }; updates = c.saturating_add-self.result } in platform_in new) ≡ (drain_act (platform_in c.args.self.now)).after
+drains : (c : goal.After-drop-told-2) → (let new : Engine = record c.args.self.now { server = record { tables = c.work.new.server.tables; announcements = c.work.new.server.announcements; pending = c.clear.new.self }; updates = c.saturating_add-self.result } in platform_in new) ≡ (drain_act (platform_in c.args.self.now)).after
 drains c =
     let e = c.args.self.now in
-    let new : Engine = record e { server = record { tables = c.work.new.server.tables; announcements = c.work.new.server.announcements; touched = c.clear.new.self }; updates = c.saturating_add-self.result } in
+    let new : Engine = record e { server = record { tables = c.work.new.server.tables; announcements = c.work.new.server.announcements; pending = c.clear.new.self }; updates = c.saturating_add-self.result } in
     drain_is (platform_in e) c.requires.server.rising (platform_in new) refl refl refl refl refl c.in_ok-told.ensures.tables (ap (λ (v : Vec Announcement Global). announcements_in v.items) c.in_ok-told.ensures.announcements) c.clear.ensures.items refl
     (c.saturating_add-self.ensures ∙ ap (λ (n : ℕ). min (e.updates + n) (2 ^ 64 - 1)) (c.len.ensures ∙ c.in_ok-out.out.ok.0 ∙ ap length (messages c)))
 
@@ -34,5 +34,5 @@ returns-clause-platform c = drains c
 
 pub returns-clause-output : goal.returns-clause-output
 returns-clause-output c =
-    c.in_ok-summarize.ensures.records ∙ ap (λ (l : List OutRecord). l ++ summary (server_in c.args.self.now.roster.links (let s : Server = record { tables = c.work.new.server.tables; announcements = c.work.new.server.announcements; touched = c.clear.new.self } in s)) c.saturating_add-self.result ∷ []) (messages c)
-    ∙ ap (λ (q : Platform). work_updates (platform_in c.args.self.now).server.touched (platform_in c.args.self.now) ++ summary q.server q.updates ∷ []) (drains c)
+    c.in_ok-summarize.ensures.records ∙ ap (λ (l : List OutRecord). l ++ summary (server_in c.args.self.now.roster.links (let s : Server = record { tables = c.work.new.server.tables; announcements = c.work.new.server.announcements; pending = c.clear.new.self } in s)) c.saturating_add-self.result ∷ []) (messages c)
+    ∙ ap (λ (q : Platform). work_updates (platform_in c.args.self.now).server.pending (platform_in c.args.self.now) ++ summary q.server q.updates ∷ []) (drains c)

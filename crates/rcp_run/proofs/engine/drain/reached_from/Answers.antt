@@ -2,7 +2,7 @@ use Rattle.std.proofs.Common.{◌≡◌, ℕ, IfOk, Ok, Err, List, ◌∙◌, ap
 use Rattle.rcp_model.specs.declared.event.Edge.{Edge}
 use Rattle.rcp_model.specs.Costs.{cost}
 use Rattle.rcp_model.specs.Edges.{rising_edges}
-use Rattle.rcp_model.specs.Control.{slot_cost}
+use Rattle.rcp_model.specs.RouteServer.{slot_cost}
 use Rattle.rcp_run.specs.State.{cost_in, costs_in}
 use Rattle.rcp_run.proofs.DrainLemmas.{costs_nowhere, costs_from}
 use Rattle.rcp_run.proofs.engine.drain.reached_from.Goals as goal

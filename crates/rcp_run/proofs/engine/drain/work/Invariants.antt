@@ -8,7 +8,7 @@ abbrev pub invariant-loop-place : goal.invariant-loop-place
 invariant-loop-place l = record {
   count : vec_len l.server.tables ≡ l.place-end;
   announcements : l.server.announcements ≡ l.initial.server.announcements;
-  touched : l.server.touched ≡ l.initial.server.touched;
-  working : Working (offers_to l.roster l.initial.server.announcements.items) l.initial.server.touched.items l.place (tables_in l.initial.server.tables.items) (tables_in l.server.tables.items)
+  pending : l.server.pending ≡ l.initial.server.pending;
+  working : Working (offers_to l.roster l.initial.server.announcements.items) l.initial.server.pending.items l.place (tables_in l.initial.server.tables.items) (tables_in l.server.tables.items)
       (told_in l.told.items);
 }

@@ -1,5 +1,5 @@
 use Rattle.std.proofs.Common.{ℕ, Option, sym, ap, ◌∙◌}
-use Rattle.rcp_model.specs.Control.{after_all}
+use Rattle.rcp_model.specs.RouteServer.{after_all}
 use Rattle.feed_meaning.specs.SessionTurns.{seat_events}
 use Rattle.rcp_run.specs.State.{server_in}
 use Rattle.rcp_run.proofs.EventLemmas.{after_none, after_both, told-map}

@@ -1,7 +1,7 @@
 use Rattle.std.proofs.Common.{◌<◌, ◌≤◌, ℕ, [], length, ap, refl, arith}
 use Rattle.rcp_model.specs.Rosters.{RosterOf}
 use Rattle.rcp_model.specs.Sessions.{Moment}
-use Rattle.rcp_model.specs.Control.{Domain}
+use Rattle.rcp_model.specs.RouteServer.{Domain}
 use Rattle.feed_meaning.specs.SessionTurns.{simple_turn}
 use Rattle.rcp_run.specs.declared.engine.Connection.{Connection}
 use Rattle.rcp_run.specs.State.{IsWhole, connection_in, connections_in, server_in}

@@ -3,7 +3,7 @@ use Rattle.std.proofs.Common.{◌≡◌, ℕ, List, vec_len}
 use Rattle.std.specs.List.{AllByRecursion}
 use Rattle.rcp_model.specs.Rosters.{RosterOf}
 use Rattle.rcp_model.specs.declared.event.Edge.{Edge}
-use Rattle.rcp_model.specs.Control.{Domain}
+use Rattle.rcp_model.specs.RouteServer.{Domain}
 use Rattle.rcp_run.specs.State.{IsServer, IsWhole, AreFramed, connections_in, server_in}
 use Rattle.rcp_run.proofs.TickLemmas.{Ticking}
 use Rattle.rcp_run.proofs.engine.turns.tick_all.Given as goal

@@ -14,19 +14,19 @@ returns-then-not-is_connected-clause-server c domain links =
 pub returns-in_ok-add-clause-server : goal.returns-in_ok-add-clause-server
 returns-in_ok-add-clause-server c domain links =
     let e = c.args.self.now in
-    let new : Server = record { tables = e.tables; announcements = c.announce.new.announcements; touched = c.add.new.prefixes } in
+    let new : Server = record { tables = e.tables; announcements = c.announce.new.announcements; pending = c.add.new.prefixes } in
     changed_server domain (server_in links e) (server_in links new) c.args.slot c.args.prefix (Some c.args.route.attrs) (sym (c.is_connected.ensures links) ∙ c.if-not-is_connected.false)
     (sym c.if-branch.true ∙ c.in_ok-announce.ensures.changed) refl c.in_ok-announce.ensures.entries c.in_ok-add.ensures refl
 
 pub returns-in_ok-add-clause-sound : goal.returns-in_ok-add-clause-sound
 returns-in_ok-add-clause-sound c as_number sound route = record {
   routes = c.in_ok-announce.ensures.kept as_number sound.routes route;
-  rising = subst IsRising (sym c.in_ok-add.ensures) (rising-include c.args.prefix c.args.self.now.touched.items sound.rising);
+  rising = subst IsRising (sym c.in_ok-add.ensures) (rising-include c.args.prefix c.args.self.now.pending.items sound.rising);
 }
 
 pub returns-else-branch-clause-server : goal.returns-else-branch-clause-server
 returns-else-branch-clause-server c domain links =
     let e = c.args.self.now in
-    let new : Server = record { tables = e.tables; announcements = c.announce.new.announcements; touched = e.touched } in
+    let new : Server = record { tables = e.tables; announcements = c.announce.new.announcements; pending = e.pending } in
     kept_server domain (server_in links e) (server_in links new) c.args.slot c.args.prefix (Some c.args.route.attrs) (sym (c.is_connected.ensures links) ∙ c.if-not-is_connected.false)
     (sym c.if-branch.false ∙ c.in_ok-announce.ensures.changed) refl c.in_ok-announce.ensures.entries refl refl

@@ -3,7 +3,7 @@ use Rattle.std.specs.List.{AllByRecursion}
 use Rattle.std.proofs.lemmas.List.{map-append, map-id}
 use Rattle.std.proofs.lemmas.Iterator.Adapters.{YieldsList-from_vec}
 use Rattle.std.proofs.lemmas.Iterator.Consumers.{YieldsList-end}
-use Rattle.rcp_model.specs.Control.{after_all}
+use Rattle.rcp_model.specs.RouteServer.{after_all}
 use Rattle.rcp_model.specs.Telling.{IsTold}
 use Rattle.feed_meaning.specs.SessionTurns.{server_event}
 use Rattle.session_core.specs.declared.actions.SessionEvent.{SessionEvent}

@@ -2,7 +2,7 @@
 use Rattle.std.proofs.Common.{◌≡◌, ℕ, List, map}
 use Rattle.std.specs.List.{AllByRecursion}
 use Rattle.rcp_model.specs.declared.event.Edge.{Edge}
-use Rattle.rcp_model.specs.Control.{Domain, after_all}
+use Rattle.rcp_model.specs.RouteServer.{Domain, after_all}
 use Rattle.rcp_model.specs.Telling.{IsTold}
 use Rattle.feed_meaning.specs.SessionTurns.{server_event}
 use Rattle.session_core.specs.Shown.{event_of}

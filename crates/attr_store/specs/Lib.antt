@@ -1,0 +1,3 @@
+pub mod SameRoutes
+pub mod Kept
+pub mod Joined

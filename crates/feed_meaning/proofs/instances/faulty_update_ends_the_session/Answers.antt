@@ -1,5 +1,0 @@
-use Rattle.feed_meaning.proofs.Computed.{faulty_is}
-use Rattle.feed_meaning.proofs.instances.faulty_update_ends_the_session.Goals as goal
-
-pub returns : goal.returns
-returns c = faulty_is

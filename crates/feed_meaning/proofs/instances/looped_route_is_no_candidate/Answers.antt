@@ -1,5 +1,0 @@
-use Rattle.feed_meaning.proofs.Computed.{loop_is}
-use Rattle.feed_meaning.proofs.instances.looped_route_is_no_candidate.Goals as goal
-
-pub returns : goal.returns
-returns c = loop_is

@@ -1,5 +1,0 @@
-use Rattle.feed_meaning.proofs.Computed.{tie_is}
-use Rattle.feed_meaning.proofs.instances.lower_identifier_breaks_a_tie.Goals as goal
-
-pub returns : goal.returns
-returns c = tie_is

@@ -1,5 +1,0 @@
-use Rattle.feed_meaning.proofs.Computed.{seat_taken_is}
-use Rattle.feed_meaning.proofs.instances.second_connection_of_a_router_is_closed.Goals as goal
-
-pub returns : goal.returns
-returns c = seat_taken_is

@@ -1,9 +1,0 @@
-use Rattle.std.proofs.Common.{refl}
-use Rattle.rcp_model.specs.Costs.{cost_through}
-use Rattle.rcp_model.specs.Decision.{tied, choice}
-use Rattle.rcp_model.specs.Control.{slot_cost}
-use Rattle.rcp_model.proofs.laws.readings.cost_goes_before_the_identifier.Goals as goal
-
-pub returns : goal.returns
-unfolding cost_through tied choice slot_cost
-returns c = refl

@@ -1,7 +1,0 @@
-use Rattle.std.proofs.Common.{refl}
-use Rattle.rcp_model.specs.Decision.{tied}
-use Rattle.rcp_model.proofs.laws.readings.exits_are_compared_within_an_as.Goals as goal
-
-pub returns : goal.returns
-unfolding tied
-returns c = refl

@@ -1,0 +1,11 @@
+pub mod RibLookups
+pub mod ListLookups
+pub mod JoinLemmas
+pub mod PendingLemmas
+pub mod SettledLemmas
+pub mod PartLemmas
+pub mod WholeLemmas
+pub mod CountLemmas
+pub mod RosterLemmas
+pub mod TwoWayLemmas
+pub mod CostCases

@@ -1,0 +1,3 @@
+pub mod Announcers
+pub mod Next
+pub mod Rows

@@ -1,0 +1,4 @@
+pub mod Values
+pub mod Grouping
+pub mod Shown
+pub mod Places
