@@ -3,41 +3,63 @@ use Rattle.std.proofs.Common.{◌≡◌, ℕ, false, not, ◌&&◌, eqb, List, [
 use Rattle.std.specs.List.{list_any, AllByRecursion}
 use Rattle.std.proofs.lemmas.Bool.{cases_Bool}
 use Rattle.rcp_base.specs.IpPrefix.{IpPrefix, IsPrefix}
-use Rattle.rcp_model.specs.Maps.{get_at}
+use Rattle.rcp_model.specs.Maps.{get_at, same_prefix}
+use Rattle.rcp_model.specs.Rising.{IsRising}
 use Rattle.rcp_model.specs.Attributes.{canonical_octets, attributes_in}
 use Rattle.rcp_model.specs.Updates.{Table}
 use Rattle.rcp_model.specs.LinkState.{same_number}
-use Rattle.rcp_model.specs.RouteServer.{Domain, Server, ServerEvent, Up, Down, Change, Links, Work, table_of, is_connected, same_octets, announced_by, after, after_all}
+use Rattle.rcp_model.specs.RouteServer.{Domain, Server, ServerEvent, Up, Down, Change, Links, Work, table_of, is_connected, same_octets, announced_by, announced_prefixes, of_slot, moved, after, after_all}
 use Rattle.rcp_model.specs.Sessions.{SessionEvent, Announce, Withdraw, Ending, Doing}
 use Rattle.rcp_model.specs.Sessions as session
 use Rattle.rcp_model.specs.Telling.{IsTold}
-use Rattle.feed_meaning.specs.Platform.{work_events, server_event, end_events, seat_events}
+use Rattle.feed_meaning.specs.Work.{work_events}
+use Rattle.feed_meaning.specs.SessionTurns.{server_event, end_events, seat_events}
 use Rattle.rcp_base.proofs.MapLemmas.{get_at-put_at_same, get_at-put_at_other, get_at-without_left}
 use Rattle.rcp_model.proofs.ServerLemmas.{number_test, number-other, Settled, settled-up, settled-down, settled-change, settled-work}
 use Rattle.rcp_model.proofs.AllLemmas.{all-append}
+use Rattle.rcp_model.proofs.LinkEventLemmas.{settled-links}
+use Rattle.rcp_model.proofs.RisingLemmas.{rising-include, rising-include_all, rising-filter}
 use Rattle.rcp_model.proofs.CourseLemmas.{is_up}
 
 -- ---- events that keep what is settled
 
--- a change in form, or another event of the records of today
+-- a change in form, or another event
 abbrev pub IsGood : ServerEvent → Type 0
 IsGood (Up slot) = Unit {0}
 IsGood (Down slot) = Unit {0}
 IsGood (Change slot p octets) = IsPrefix p × ((o : List ℕ) → octets ≡ Some o → canonical_octets (attributes_in o) ≡ o)
-IsGood (Links edges) = ⊥
+IsGood (Links edges) = Unit {0}
 IsGood (Work p) = Unit {0}
 
 settled-event : (domain : Domain) (event : ServerEvent) (server : Server) → IsGood event → Settled domain server → Settled domain (after domain event server)
 settled-event domain (Up slot) server good h = settled-up domain slot server h
 settled-event domain (Down slot) server good h = settled-down domain slot server h
 settled-event domain (Change slot p octets) server good h = settled-change domain slot p octets server good.0 good.1 h
-settled-event domain (Links edges) server good h = absurd good
+settled-event domain (Links edges) server good h = settled-links domain edges server h
 settled-event domain (Work p) server good h = settled-work domain p server h
 
 pub settled-all : (domain : Domain) (events : List ServerEvent) (server : Server) → AllByRecursion IsGood events → Settled domain server → Settled domain (after_all domain events server)
 unfolding after_all
 settled-all domain [] server good h = h
 settled-all domain (event ∷ events) server good h = settled-all domain events (after domain event server) good.1 (settled-event domain event server good.0 h)
+
+-- the pending prefixes stay rising
+pub rising-event : (domain : Domain) (event : ServerEvent) (server : Server) → IsRising server.pending → IsRising (after domain event server).pending
+unfolding after
+rising-event domain (Up slot) server h = rising-include_all (announced_prefixes server.announcements) server.pending h
+rising-event domain (Down slot) server h = rising-include_all (announced_prefixes (of_slot slot server.announcements)) server.pending h
+rising-event domain (Change slot p octets) server h =
+    elim (cases_Bool (is_connected server slot && not (same_octets (announced_by server.announcements slot p) octets))) [
+      | inl e ↦ rw e (rising-include p server.pending h)
+      | inr e ↦ rw e h
+    ]
+rising-event domain (Links edges) server h = rising-include_all (announced_prefixes (moved domain server.edges edges server.announcements)) server.pending h
+rising-event domain (Work p) server h = rising-filter (λ q. not (same_prefix p q)) server.pending h
+
+pub rising-all : (domain : Domain) (events : List ServerEvent) (server : Server) → IsRising server.pending → IsRising (after_all domain events server).pending
+unfolding after_all
+rising-all domain [] server h = h
+rising-all domain (event ∷ events) server h = rising-all domain events (after domain event server) (rising-event domain event server h)
 
 pub work-good : (ps : List IpPrefix) → AllByRecursion IsGood (work_events ps)
 work-good [] = tt

@@ -1,6 +1,10 @@
+pub mod CarryLemmas
+pub mod CellLemmas
 pub mod RunLemmas
 pub mod EventLemmas
 pub mod TurnLemmas
 pub mod SessionTurns
-pub mod MeaningLemmas
-pub mod CodecLemmas
+pub mod LinkRecordLemmas
+pub mod WorkLemmas
+pub mod SliceLemmas
+pub mod HeadlineLemmas

@@ -1,23 +1,21 @@
 -- What a run of records keeps: the octets sent to each connection replay to the table of its slot.
-use Rattle.std.proofs.Common.{◌≡◌, ℕ, ◌≤◌, Bool, true, false, cond, ◌||◌, List, [], ◌∷◌, length, Option, Some, None, refl, sym, ap, ◌∙◌, ◌⊎◌, inl, inr}
+use Rattle.std.proofs.Common.{◌≡◌, ℕ, Bool, true, false, cond, ◌||◌, List, [], ◌∷◌, ◌++◌, Option, Some, refl, sym, ap, ◌∙◌, inl, inr}
 use Rattle.std.specs.List.{concat, AllByRecursion}
-use Rattle.std.proofs.lemmas.Bool.{cases_Bool, or_cases, both_ways}
-use Rattle.std.proofs.lemmas.Slice.Eq.{bytes_eq-Decides}
-use Rattle.rcp_base.specs.IpPrefix.{IpPrefix, IsPrefix}
+use Rattle.std.proofs.lemmas.Bool.{cases_Bool}
+use Rattle.std.proofs.lemmas.List.{append-nil}
+use Rattle.std.proofs.lemmas.List.Folds.{concat-append}
+use Rattle.rcp_base.specs.IpPrefix.{IpPrefix}
 use Rattle.rcp_model.specs.Maps.{get_at, set_at, same_prefix, is_among}
 use Rattle.rcp_model.specs.Messages.{IsMessage, messages_in}
-use Rattle.rcp_model.specs.Updates.{Table, after_message, after_messages, replay}
-use Rattle.rcp_model.specs.RouteServer.{Domain, Server, Work, same_octets, table_of, offer, after, after_all, announced_at}
-use Rattle.feed_meaning.specs.Platform.{cell_update, cell_of, changed_cells, work_events}
+use Rattle.rcp_model.specs.Updates.{Table, after_messages, replay}
+use Rattle.rcp_model.specs.Cells.{Cell, Carries, value_after}
+use Rattle.rcp_model.specs.RouteServer.{Domain, Server, Work, table_of, announced_at, offer, after, after_all}
+use Rattle.rcp_model.proofs.AllLemmas.{all-append}
 use Rattle.rcp_base.proofs.MapLemmas.{get_at-set_at_same, get_at-set_at_other, same_prefix-is, same_prefix-other, prefix_test}
+use Rattle.rcp_model.proofs.ReadingLemmas.{messages_in-concat}
 use Rattle.rcp_model.proofs.ServerLemmas.{worked-table}
-
--- What holds of an UPDATE for one cell, and of a list of messages: the codec's part, shown elsewhere.
-pub record CellUpdates : Type 0 where
-  pub whole : (p : IpPrefix) (value : Option (List ℕ)) → IsPrefix p → ((octets : List ℕ) → value ≡ Some octets → length octets ≤ 4068) → IsMessage (cell_update p value)
-  pub effect : (p : IpPrefix) (value : Option (List ℕ)) → IsPrefix p → ((octets : List ℕ) → value ≡ Some octets → length octets ≤ 4068)
-      → (table : Table) (q : IpPrefix) → get_at same_prefix q (after_message (cell_update p value) table) ≡ cond (same_prefix q p) value (get_at same_prefix q table)
-  pub read : (messages : List (List ℕ)) → AllByRecursion IsMessage messages → messages_in (concat messages) ≡ messages
+use Rattle.rcp_model.proofs.UpdateLemmas.{after_messages-append}
+use Rattle.feed_meaning.specs.Work.{work_events}
 
 -- ---- octets that replay to a table
 
@@ -27,72 +25,33 @@ pub record Replays (octets : List ℕ) (table : Table) : Type 0 where
   pub each : AllByRecursion IsMessage messages
   pub gives : (p : IpPrefix) → get_at same_prefix p (after_messages messages []) ≡ get_at same_prefix p table
 
-pub Replays-replay : CellUpdates → (octets : List ℕ) (table : Table) (p : IpPrefix) → Replays octets table → get_at same_prefix p (replay octets) ≡ get_at same_prefix p table
+-- whole messages, one after another, are read as these
+read-all : (messages : List (List ℕ)) → AllByRecursion IsMessage messages → messages_in (concat messages) ≡ messages
+read-all messages each = ap messages_in (sym (append-nil (concat messages))) ∙ (messages_in-concat messages [] each).0 ∙ append-nil messages
+
+pub Replays-replay : (octets : List ℕ) (table : Table) (p : IpPrefix) → Replays octets table → get_at same_prefix p (replay octets) ≡ get_at same_prefix p table
 unfolding replay
-Replays-replay codec octets table p h =
-    rw (h.whole, codec.read h.messages h.each) (h.gives p)
+Replays-replay octets table p h =
+    rw (h.whole, read-all h.messages h.each) (h.gives p)
 
 pub Replays-nothing : Replays [] []
 unfolding after_messages
 Replays-nothing = record { messages = []; whole = refl; each = tt; gives = λ p. refl }
 
--- ---- the cells that changed
-
-same_octets-is : (a b : Option (List ℕ)) → same_octets a b ≡ true → a ≡ b
-same_octets-is None None e = refl
-same_octets-is None (Some b) e = absurd cc
-same_octets-is (Some a) None e = absurd cc
-same_octets-is (Some a) (Some b) e = ap Some ((bytes_eq-Decides a b).0 e)
-
--- prefixes in form, at which a table leaves room for them
-pub FitsAt : Option Table → IpPrefix → Type 0
-FitsAt now p = IsPrefix p × ((octets : List ℕ) → cell_of now p ≡ Some octets → length octets ≤ 4068)
-
-pub FitsAt-from : (now : Option Table) (p : IpPrefix) → IsPrefix p → ((octets : List ℕ) → cell_of now p ≡ Some octets → length octets ≤ 4068) → FitsAt now p
-unfolding FitsAt
-FitsAt-from now p h g = (h, g)
-
-pub cells-whole : CellUpdates → (ps : List IpPrefix) (before now : Option Table) → AllByRecursion (FitsAt now) ps → AllByRecursion IsMessage (changed_cells ps before now)
-unfolding FitsAt
-cells-whole codec [] before now h = tt
-cells-whole codec (p ∷ ps) before now h =
-    elim (cases_Bool (same_octets (cell_of before p) (cell_of now p))) [
-      | inl e ↦ rw e (cells-whole codec ps before now h.1)
-      | inr e ↦ rw e (codec.whole p (cell_of now p) h.0.0 h.0.1, cells-whole codec ps before now h.1)
-    ]
-
--- At a prefix that a table has as it is now, or as it was before where the prefix is still to come, the messages leave it as it is now.
-pub cells-effect : CellUpdates → (ps : List IpPrefix) (before now : Option Table) (table : Table) (q : IpPrefix) → AllByRecursion (FitsAt now) ps
-    → ((get_at same_prefix q table ≡ cell_of now q) ⊎ ((get_at same_prefix q table ≡ cell_of before q) × (is_among ps q ≡ true)))
-    → get_at same_prefix q (after_messages (changed_cells ps before now) table) ≡ cell_of now q
-unfolding after_messages FitsAt
-cells-effect codec [] before now table q fit (inl h) = h
-cells-effect codec [] before now table q fit (inr h) = absurd (both_ways false refl h.1)
-cells-effect codec (p ∷ ps) before now table q fit h =
-    elim (cases_Bool (same_octets (cell_of before p) (cell_of now p))) [
-      | inl e ↦ rw e (cells-effect codec ps before now table q fit.1 (
-          elim h [
-            | inl n ↦ inl n
-            | inr b ↦ elim (or_cases (same_prefix q p) (is_among ps q) b.1) [
-              | inl s ↦ inl (b.0 ∙ ap (cell_of before) (same_prefix-is q p s) ∙ same_octets-is (cell_of before p) (cell_of now p) e ∙ ap (cell_of now) (sym (same_prefix-is q p s)))
-              | inr s ↦ inr (b.0, s)
-            ]
-          ]))
-      | inr e ↦
-          let effect : get_at same_prefix q (after_message (cell_update p (cell_of now p)) table) ≡ cond (same_prefix q p) (cell_of now p) (get_at same_prefix q table)
-          = codec.effect p (cell_of now p) fit.0.0 fit.0.1 table q in
-          rw e (cells-effect codec ps before now (after_message (cell_update p (cell_of now p)) table) q fit.1 (
-          elim (cases_Bool (same_prefix q p)) [
-            | inl s ↦ inl (effect ∙ rw s (ap (cell_of now) (sym (same_prefix-is q p s))))
-            | inr s ↦ elim h [
-              | inl n ↦ inl (effect ∙ rw s n)
-              | inr b ↦ elim (or_cases (same_prefix q p) (is_among ps q) b.1) [
-                | inl t ↦ absurd (both_ways (same_prefix q p) s t)
-                | inr t ↦ inr (effect ∙ rw s b.0, t)
-              ]
-            ]
-          ]))
-    ]
+-- Further messages that carry cells, where these give the new table.
+pub Replays-carried : (octets : List ℕ) (messages : List (List ℕ)) (cells : List Cell) (table new : Table) → Replays octets table → Carries messages cells
+    → ((q : IpPrefix) → value_after (get_at same_prefix q cells) (get_at same_prefix q table) ≡ get_at same_prefix q new)
+    → Replays (octets ++ concat messages) new
+Replays-carried octets messages cells table new h carries gives = record {
+  messages = h.messages ++ messages;
+  whole = ap (λ (l : List ℕ). l ++ concat messages) h.whole ∙ sym (concat-append h.messages messages);
+  each = all-append IsMessage h.messages messages h.each carries.whole;
+  gives = λ q.
+      ap (get_at same_prefix q) (after_messages-append h.messages messages [])
+      ∙ carries.replayed (after_messages h.messages []) q
+      ∙ ap (value_after (get_at same_prefix q cells)) (h.gives q)
+      ∙ gives q;
+}
 
 -- ---- work on a list of prefixes
 

@@ -13,7 +13,8 @@ use Rattle.rcp_model.specs.Maps.{get_at, set_at}
 use Rattle.rcp_model.specs.LinkState.{same_number}
 use Rattle.rcp_model.specs.Sessions.{Doing, Ending, Phase, OpenSent, Claiming, Negotiated, SessionState, Answer, Octets, Seat, Moment, End, later_of, answer, begun, begun_established, is_closed, seat_taken, stepped, then_also, seat_of, slot_in}
 use Rattle.rcp_model.specs.Telling.{IsTold, AreOctets}
-use Rattle.feed_meaning.specs.Platform.{Connections, Platform, is_slot, is_free, Turn, turn, simple_turn, claim_turn, octets_turn, connection_at, ready_turn, slot_named, turns_of, after_turn, after_turns, turn_output, noted, record_turns}
+use Rattle.feed_meaning.specs.Platform.{Connections, Platform}
+use Rattle.feed_meaning.specs.SessionTurns.{is_slot, is_free, Turn, turn, simple_turn, claim_turn, octets_turn, connection_at, ready_turn, slot_named, turns_of, after_turn, after_turns, turn_output, noted, record_turns}
 use Rattle.rcp_base.proofs.MapLemmas.{get_at-set_at_other}
 use Rattle.rcp_model.proofs.ServerLemmas.{number_test, number-other}
 use Rattle.rcp_model.proofs.AllLemmas.{all-append}
@@ -324,6 +325,7 @@ kept-ready platform outs last number (Some slot) above later h =
 pub kept-later : (platform : Platform) (outs : List OutRecord) (last later : ℕ) → last ≤ later → Kept platform outs last → Kept platform outs later
 kept-later platform outs last later more h = record {
   settled = h.settled;
+  rising = h.rising;
   distinct = h.distinct;
   seats = h.seats;
   are_open = h.are_open;
@@ -337,6 +339,7 @@ kept-later platform outs last later more h = record {
 kept-at : (platform : Platform) (outs : List OutRecord) (last now : ℕ) → Kept platform outs last → Kept (record platform { moment = now }) outs last
 kept-at platform outs last now h = record {
   settled = h.settled;
+  rising = h.rising;
   distinct = h.distinct;
   seats = h.seats;
   are_open = h.are_open;

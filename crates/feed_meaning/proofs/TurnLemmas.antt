@@ -7,20 +7,23 @@ use Rattle.std.proofs.lemmas.List.{append-nil}
 use Rattle.std.proofs.lemmas.List.Folds.{concat-append}
 use Rattle.rcp_base.specs.Feed.{OutRecord}
 use Rattle.rcp_model.specs.Maps.{get_at, set_at, same_prefix}
+use Rattle.rcp_model.specs.Rising.{IsRising}
 use Rattle.rcp_model.specs.Messages.{IsMessage}
 use Rattle.rcp_model.specs.Updates.{Table, Sections, sections_of, after_message, after_messages}
 use Rattle.rcp_model.specs.LinkState.{same_number}
 use Rattle.rcp_model.specs.RouteServer.{Server, table_of, after_all}
 use Rattle.rcp_model.specs.Sessions.{Ending, Phase, OpenSent, Claiming, OpenConfirm, Established, Closed, SessionState, is_closed, seat_of, slot_in}
 use Rattle.rcp_model.specs.Telling.{IsTold, AreOctets}
-use Rattle.feed_meaning.specs.Platform.{Connections, Platform, domain_of, Turn, server_event, seat_events, turn_events, if_open, after_turn, MESSAGE, messages_to, end_record, turn_output, sent_to}
+use Rattle.feed_meaning.specs.Platform.{Connections, Platform, domain_of}
+use Rattle.feed_meaning.specs.SessionTurns.{Turn, server_event, seat_events, turn_events, if_open, after_turn, turn_output}
+use Rattle.feed_meaning.specs.OutRecords.{MESSAGE, messages_to, end_record, sent_to}
 use Rattle.rcp_base.proofs.MapLemmas.{get_at-set_at_same, get_at-set_at_other}
 use Rattle.rcp_model.proofs.ServerLemmas.{number_test, number-other, Settled}
 use Rattle.rcp_model.proofs.UpdateLemmas.{after_messages-append}
 use Rattle.rcp_model.proofs.AllLemmas.{all-append}
 use Rattle.feed_meaning.proofs.RunLemmas.{Replays}
 use Rattle.rcp_model.proofs.CourseLemmas.{IsQuiet, Shape}
-use Rattle.feed_meaning.proofs.EventLemmas.{settled-all, seat-good, changes-tables, up-table, other-tables}
+use Rattle.feed_meaning.proofs.EventLemmas.{settled-all, rising-all, seat-good, changes-tables, up-table, other-tables}
 
 -- ---- what is sent
 
@@ -97,6 +100,7 @@ Tells octets server (Some slot) = (table : Table) × (table_of server slot ≡ S
 -- No number above the last was begun.
 pub record Kept (platform : Platform) (outs : List OutRecord) (last : ℕ) : Type 0 where
   pub settled : Settled (domain_of platform.roster) platform.server
+  pub rising : IsRising platform.server.pending
   pub distinct : Distinct platform.connections
   pub seats : (m n slot : ℕ) (s t : SessionState) → get_at same_number m platform.connections ≡ Some s → get_at same_number n platform.connections ≡ Some t
       → seat_of s.phase ≡ Some slot → seat_of t.phase ≡ Some slot → m ≡ n
@@ -239,6 +243,7 @@ module _ (platform : Platform) (outs : List OutRecord) (last : ℕ) (phase : Pha
   unfolding now
   kept-turn = record {
     settled = settled-all (domain_of platform.roster) (turn_events turn) platform.server (seat-good platform.roster.as_number turn.seat turn.answer.does is_turn.good) h.settled;
+    rising = rising-all (domain_of platform.roster) (turn_events turn) platform.server h.rising;
     distinct = Distinct-set_at turn.number (if_open turn.answer.after) platform.connections h.distinct;
     seats = λ m n slot s t is_m is_n seat_m seat_n.
         elim (after-was turn platform.connections m s is_m) [
@@ -280,3 +285,21 @@ module _ (platform : Platform) (outs : List OutRecord) (last : ℕ) (phase : Pha
           | inl e ↦ let n_is : n ≡ turn.number = eqb-true n turn.number e in absurd (omega (arith, n_is, begun, above))
           | inr e ↦ e
         ]
+
+-- ---- records that are no messages
+
+-- Records that send nothing change nothing.
+pub kept-silent : (platform : Platform) (outs more : List OutRecord) (last : ℕ) → ((n : ℕ) → sent_to n more ≡ []) → Kept platform outs last → Kept platform (outs ++ more) last
+kept-silent platform outs more last silent h = record {
+  settled = h.settled;
+  rising = h.rising;
+  distinct = h.distinct;
+  seats = h.seats;
+  are_open = h.are_open;
+  octets = h.octets;
+  told = λ n s is. rw (same n) (h.told n s is);
+  absent = h.absent;
+  unsent = λ n above. same n ∙ h.unsent n above;
+} where
+  same : (n : ℕ) → sent_to n (outs ++ more) ≡ sent_to n outs
+  same n = sent_to-append n outs more ∙ rw (silent n) (append-nil (sent_to n outs))

@@ -1,5 +1,5 @@
 -- What octets come to as a feed: the roster of the first record, the records that are acted on, and how the feed ends.
-use Rattle.std.specs.Prelude.{◌≡◌, ◌≢◌, ℕ, ◌+◌, List, [], ◌∷◌, ◌++◌, take, Option, Some, None, is_some, Result, Ok, Err, if◌then◌else◌}
+use Rattle.std.specs.Prelude.{◌≡◌, ◌≢◌, ℕ, ◌+◌, List, [], ◌∷◌, ◌++◌, take, Option, Some, None, is_some, Result, Ok, Err, nat_lt, if◌then◌else◌}
 use Rattle.std.specs.List.{flat_map}
 use Rattle.rcp_base.specs.declared.kinds.Kind.{Kind}
 use Rattle.rcp_base.specs.declared.kinds.Kind.TheVariants as kind
@@ -8,19 +8,21 @@ use Rattle.rcp_base.specs.declared.kinds.FeedWhy.TheVariants as why
 use Rattle.rcp_base.specs.Feed.{FeedRecord, Feed, before_feeds, feed_of, out_octets}
 use Rattle.rcp_base.specs.Roster.{FaultyLine}
 use Rattle.rcp_model.specs.Rosters.{RosterOf, roster_in}
-use Rattle.feed_meaning.specs.Platform.{fresh, slot_named, all_output, Headline}
+use Rattle.feed_meaning.specs.Platform.{fresh}
+use Rattle.feed_meaning.specs.SessionTurns.{slot_named}
+use Rattle.feed_meaning.specs.Work.{shard_in}
+use Rattle.feed_meaning.specs.Runs.{all_output, Headline}
 
--- ---- the faults that a record of a feed has besides
+-- ---- the faults that a record of a feed has besides, by the roster
 
--- An E names a router of the roster. Link state and slices of work aren't read today.
+-- An E names a router of the roster, and a W one of its shards.
 abbrev pub kind_fault : RosterOf → List ℕ → Kind → Option FeedWhy
 kind_fault roster body kind.Ready = if is_some (slot_named roster body) then None else Some why.UnknownRouter
-kind_fault roster body kind.Links = Some why.BadBody
-kind_fault roster body kind.Slice = Some why.BadBody
+kind_fault roster body kind.Slice = if nat_lt (shard_in body) roster.shards then None else Some why.BadShard
 kind_fault roster body kind = None
 
-unfoldable pub unread_fault : RosterOf → FeedRecord → Option FeedWhy
-unread_fault roster item = kind_fault roster item.body item.kind
+unfoldable pub roster_fault : RosterOf → FeedRecord → Option FeedWhy
+roster_fault roster item = kind_fault roster item.body item.kind
 
 -- ---- how a feed ends
 
@@ -34,44 +36,54 @@ abbrev pub end_at : ℕ → Option FeedWhy → FeedEnd
 end_at number None = Finished
 end_at number (Some fault) = FaultyRecord number fault
 
--- the end of records of which the first has this number, where the feed has this fault behind them
-abbrev pub end_of : RosterOf → ℕ → List FeedRecord → Option FeedWhy → FeedEnd
-end_of roster number [] fault = end_at number fault
-end_of roster number (item ∷ items) fault = elim (unread_fault roster item) [
+-- Which fault a record has besides, if any. The records that follow a faulty one aren't acted on.
+abbrev pub FurtherFault : Type 0
+FurtherFault = FeedRecord → Option FeedWhy
+
+-- the end of records of which the first has this number, where the feed has this fault after them
+abbrev pub end_of : FurtherFault → ℕ → List FeedRecord → Option FeedWhy → FeedEnd
+end_of fault_of number [] fault = end_at number fault
+end_of fault_of number (item ∷ items) fault = elim (fault_of item) [
   | Some why ↦ FaultyRecord number why
-  | None ↦ end_of roster (number + 1) items fault
+  | None ↦ end_of fault_of (number + 1) items fault
 ]
 
--- the records before the first that isn't read
-abbrev pub read_of : RosterOf → List FeedRecord → List FeedRecord
-read_of roster [] = []
-read_of roster (item ∷ items) = if is_some (unread_fault roster item) then [] else item ∷ read_of roster items
+-- the records before the first faulty one
+abbrev pub read_of : FurtherFault → List FeedRecord → List FeedRecord
+read_of fault_of [] = []
+read_of fault_of (item ∷ items) = if is_some (fault_of item) then [] else item ∷ read_of fault_of items
 
 -- ---- a whole feed
 
--- The roster, where its text has one; the records behind it that are acted on, Z included; the end; and the octets behind Z.
+-- The roster, where its text has one; the records after it that are acted on, Z included; the end; and the octets after Z.
 pub record FeedMeaning : Type 0 where
   pub roster : Option RosterOf
   pub items : List FeedRecord
   pub end : FeedEnd
   pub left : List ℕ
 
-abbrev pub with_roster : Feed → ℕ → List FeedRecord → Result RosterOf FaultyLine → FeedMeaning
-with_roster feed number items (Err fault) = record { roster = None; items = []; end = FaultyRoster number fault; left = feed.left }
-with_roster feed number items (Ok roster) = record {
-  roster = Some roster;
-  items = read_of roster items;
-  end = end_of roster (number + 1) items feed.fault;
-  left = feed.left;
-}
+module _ (faults : RosterOf → FurtherFault) where
+  abbrev pub with_roster : Feed → ℕ → List FeedRecord → Result RosterOf FaultyLine → FeedMeaning
+  with_roster feed number items (Err fault) = record { roster = None; items = []; end = FaultyRoster number fault; left = feed.left }
+  with_roster feed number items (Ok roster) = record {
+    roster = Some roster;
+    items = read_of (faults roster) items;
+    end = end_of (faults roster) (number + 1) items feed.fault;
+    left = feed.left;
+  }
 
--- what a feed comes to whose first record has this number
-abbrev pub meaning_of : ℕ → Feed → List FeedRecord → FeedMeaning
-meaning_of number feed [] = record { roster = None; items = []; end = end_at number feed.fault; left = feed.left }
-meaning_of number feed (first ∷ items) = with_roster feed number items (roster_in first.body)
+  -- what a feed comes to whose first record has this number
+  abbrev pub meaning_of : ℕ → Feed → List FeedRecord → FeedMeaning
+  meaning_of number feed [] = record { roster = None; items = []; end = end_at number feed.fault; left = feed.left }
+  meaning_of number feed (first ∷ items) = with_roster feed number items (roster_in first.body)
 
-unfoldable pub feed_meaning : List ℕ → FeedMeaning
-feed_meaning octets = let feed = feed_of before_feeds octets in meaning_of 1 feed feed.items
+  -- what octets come to as a feed, with these faults besides
+  unfoldable pub meaning_by : List ℕ → FeedMeaning
+  meaning_by octets = let feed = feed_of before_feeds octets in meaning_of 1 feed feed.items
+
+-- what octets come to as a feed
+abbrev pub feed_meaning : List ℕ → FeedMeaning
+feed_meaning octets = meaning_by roster_fault octets
 
 -- ---- what is put out for it
 

@@ -30,9 +30,13 @@ of_a_stranger = frame 67 0 roster_text ++ router 1 1 ++ router 2 9 ++ router 3 2
 abbrev pub of_a_faulty_roster : List ℕ
 of_a_faulty_roster = frame 67 0 faulty_text ++ router 1 1 ++ finish
 
--- link state isn't read, and a connection begins twice behind it
+-- two octets of link state, and then a connection that begins twice
 abbrev pub of_link_state : List ℕ
 of_link_state = frame 67 0 roster_text ++ router 1 1 ++ frame 76 0 (1 ∷ 2 ∷ []) ++ router 1 2 ++ finish
+
+-- a slice of the roster's second shard, and then one of a third
+abbrev pub of_a_further_shard : List ℕ
+of_a_further_shard = frame 67 0 roster_text ++ router 1 1 ++ frame 87 0 (0 ∷ 1 ∷ 0 ∷ 0 ∷ 0 ∷ 9 ∷ []) ++ frame 87 0 (0 ∷ 2 ∷ 0 ∷ 0 ∷ 0 ∷ 9 ∷ []) ++ finish
 
 -- the input ends within the third record
 abbrev pub cut_short : List ℕ

@@ -6,3 +6,4 @@ pub mod SessionFeeds
 pub mod FeedCases
 pub mod FaultCases
 pub mod LinkStateCases
+pub mod LinkStateFeeds

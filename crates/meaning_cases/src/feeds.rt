@@ -4,7 +4,7 @@ ghost use Rattle.std.specs.Prelude.{◌≡◌, [], ◌∷◌, length};
 ghost use Rattle.rcp_base.specs.declared.kinds.FeedWhy.TheVariants as why;
 ghost use Rattle.rcp_base.specs.declared.kinds.RosterWhy.TheVariants as roster_why;
 ghost use Rattle.feed_meaning.specs.WholeFeeds.{Finished, FaultyRecord, FaultyRoster, feed_meaning, whole_output};
-ghost use Rattle.meaning_cases.specs.FeedCases.{of_two_routers, of_a_stranger, of_a_faulty_roster, of_link_state, cut_short};
+ghost use Rattle.meaning_cases.specs.FeedCases.{of_two_routers, of_a_stranger, of_a_faulty_roster, of_link_state, of_a_further_shard, cut_short};
 
 /// A feed ends at its Z, and what follows is left.
 pub fn feed_ends_at_its_z()
@@ -19,15 +19,22 @@ pub fn stranger_is_a_fault_of_its_record()
     ensures items { length (feed_meaning of_a_stranger).items ≡ 1 }
 {}
 
-/// A faulty line of the roster is told with its record, its number and its reason. Nothing is put out.
+/// A faulty line of the roster is named with its record, its number and its reason. Nothing is put out.
 pub fn faulty_roster_is_told_by_its_line()
     ensures end { (feed_meaning of_a_faulty_roster).end ≡ FaultyRoster 1 (record { line = 2; why = roster_why.Word }) }
     ensures output { whole_output (feed_meaning of_a_faulty_roster) ≡ [] }
 {}
 
-/// Link state isn't read today, and so is a fault of its record. It comes before a fault of a later record.
-pub fn link_state_is_a_fault_of_its_record()
-    ensures { (feed_meaning of_link_state).end ≡ FaultyRecord 3 why.BadBody }
+/// Octets of link state are no fault, whatever they are. That of a later record is.
+pub fn link_state_is_no_fault()
+    ensures end { (feed_meaning of_link_state).end ≡ FaultyRecord 4 why.Twice }
+    ensures items { length (feed_meaning of_link_state).items ≡ 2 }
+{}
+
+/// A slice of a shard that isn't below the roster's number of shards is the fault of its record.
+pub fn further_shard_is_a_fault_of_its_record()
+    ensures end { (feed_meaning of_a_further_shard).end ≡ FaultyRecord 4 why.BadShard }
+    ensures items { length (feed_meaning of_a_further_shard).items ≡ 2 }
 {}
 
 /// An input that ends within a record is a fault of that record.

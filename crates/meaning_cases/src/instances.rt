@@ -2,7 +2,8 @@
 
 ghost use Rattle.std.specs.Prelude.{◌≡◌, []};
 ghost use Rattle.rcp_model.specs.Edges.{edges_of};
-ghost use Rattle.feed_meaning.specs.Platform.{fresh, all_output};
+ghost use Rattle.feed_meaning.specs.Platform.{fresh};
+ghost use Rattle.feed_meaning.specs.Runs.{all_output};
 ghost use Rattle.meaning_cases.specs.Examples.{A, B, link, linked, tie, tie_output};
 ghost use Rattle.meaning_cases.specs.Cases.{starred, lower_exit, lower_exit_output, loop, loop_output, withdrawn_and_announced, withdrawn_and_announced_output, lone, alone, alone_output, longest, longest_output, overlong, overlong_output, lone_link_state, faulty, faulty_output};
 ghost use Rattle.meaning_cases.specs.SessionFeeds.{session_loss, session_loss_output, timers, timers_output, seat_taken, seat_taken_output, in_pieces, faulty_header, faulty_header_output, refused_and_again, refused_and_again_output};
@@ -76,7 +77,7 @@ pub fn cut_header_is_read()
     ensures { all_output (fresh linked) in_pieces ≡ tie_output }
 {}
 
-/// A header with a length below 19 is told before the OPEN came (section 6.1). The end of a connection that was closed
+/// A header with a length below 19 is refused before the OPEN came (section 6.1). The end of a connection that was closed
 /// is of no account.
 pub fn faulty_header_ends_the_session()
     ensures { all_output (fresh linked) faulty_header ≡ faulty_header_output }

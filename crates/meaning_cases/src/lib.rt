@@ -13,6 +13,7 @@
 //!   doesn't take.
 //! - `link_state_cases`: what packets bring, where framing is lost, and which instance of an LSA is kept how long.
 //! - `instances`: all that is put out for lists of records over networks of three or four routers.
+//! - `link_state_feeds`: the same with link state, lost framing and slices of work.
 //! - `feeds`: how feeds of octets end, by their Z or by a fault.
 //!
 //! ```text
@@ -24,5 +25,6 @@ pub mod fault_cases;
 pub mod feeds;
 pub mod instances;
 pub mod link_state_cases;
+pub mod link_state_feeds;
 pub mod readings;
 pub mod session_cases;

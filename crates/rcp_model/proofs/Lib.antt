@@ -8,7 +8,9 @@ pub mod CanonicalLemmas
 pub mod RouteLemmas
 pub mod RibLemmas
 pub mod OfferLemmas
+pub mod RisingLemmas
 pub mod ServerLemmas
+pub mod LinkEventLemmas
 pub mod AllLemmas
 pub mod ToldLemmas
 pub mod CourseLemmas

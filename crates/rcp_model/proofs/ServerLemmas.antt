@@ -87,7 +87,7 @@ include-form p (q ∷ ps) h hs =
           ])
     ]
 
-include_all-form : (ps qs : List IpPrefix) → AllByRecursion IsPrefix ps → AllByRecursion IsPrefix qs → AllByRecursion IsPrefix (include_all ps qs)
+pub include_all-form : (ps qs : List IpPrefix) → AllByRecursion IsPrefix ps → AllByRecursion IsPrefix qs → AllByRecursion IsPrefix (include_all ps qs)
 include_all-form [] qs h hs = hs
 include_all-form (p ∷ ps) qs h hs = include_all-form ps (include p qs) h.1 (include-form p qs h.0 hs)
 
@@ -99,7 +99,7 @@ put_at-form place octets (entry ∷ a) h hs =
       | inr e ↦ rw e (hs.0, put_at-form place octets a h hs.1)
     ]
 
-kept-form : (test : (Place × List ℕ) → Bool) (a : Announcements) → AllByRecursion IsPrefix (announced_prefixes a) → AllByRecursion IsPrefix (announced_prefixes (filter test a))
+pub kept-form : (test : (Place × List ℕ) → Bool) (a : Announcements) → AllByRecursion IsPrefix (announced_prefixes a) → AllByRecursion IsPrefix (announced_prefixes (filter test a))
 kept-form test [] h = tt
 kept-form test (entry ∷ a) h =
     elim (cases_Bool (test entry)) [

@@ -10,7 +10,8 @@ use Rattle.rcp_base.specs.declared.kinds.RosterWhy.{RosterWhy}
 use Rattle.rcp_base.specs.Feed.{FeedState, FeedRecord, Feed, IsRecord, is_roster, is_finish, has_length, record_octets, fault_of, fault_in_front, before_feeds, after, with_first, feed_of}
 use Rattle.rcp_model.specs.Rosters.{RosterOf, roster_in}
 use Rattle.feed_meaning.specs.Platform.{Platform, fresh}
-use Rattle.feed_meaning.specs.WholeFeeds.{FeedMeaning, with_roster, meaning_of, feed_meaning, whole_output}
+use Rattle.feed_meaning.specs.WholeFeeds.{meaning_by, FeedMeaning, with_roster, meaning_of, whole_output}
+use Rattle.rcp_run.specs.Narrowing.{unread_fault, narrowed}
 use Rattle.feed_format.specs.Reading.{Refuses, TakesLess}
 use Rattle.feed_format.specs.declared.reader.FeedRefusal.{FeedRefusal}
 use Rattle.feed_format.specs.declared.reader.FeedRefusal.TheVariants as refusal
@@ -24,13 +25,13 @@ use Rattle.rcp_run.proofs.WrittenLemmas.{wrote_nothing, wrote_none, wrote_after}
 
 -- ---- no record was given
 
-meaning-none : (octets : List ℕ) → (feed_of before_feeds octets).items ≡ [] → whole_output (feed_meaning octets) ≡ []
-unfolding feed_meaning
+meaning-none : (octets : List ℕ) → (feed_of before_feeds octets).items ≡ [] → whole_output (narrowed octets) ≡ []
+unfolding meaning_by
 meaning-none octets none = rw none refl
 
-meaning-fault : (octets : List ℕ) (fault : FeedWhy) → fault_in_front before_feeds octets ≡ Some fault → feed_meaning octets ≡ meaning_of 1 (record { items = []; state = before_feeds; fault = Some fault; left = octets }) []
-unfolding feed_meaning
-meaning-fault octets fault e = ap (λ (f : Feed). meaning_of 1 f f.items) (feed-fault before_feeds octets fault (no_front before_feeds octets fault e))
+meaning-fault : (octets : List ℕ) (fault : FeedWhy) → fault_in_front before_feeds octets ≡ Some fault → narrowed octets ≡ meaning_of unread_fault 1 (record { items = []; state = before_feeds; fault = Some fault; left = octets }) []
+unfolding meaning_by
+meaning-fault octets fault e = ap (λ (f : Feed). meaning_of unread_fault 1 f f.items) (feed-fault before_feeds octets fault (no_front before_feeds octets fault e))
 
 pub first-refused : (refused : FeedRefusal) (octets : List ℕ) (now taken : Option (List ℕ)) → Refuses before_feeds octets refused → (refused ≡ refusal.Read → TakesLess (Some octets) now)
     → Answers (status_of refused) octets now taken taken
@@ -82,15 +83,15 @@ module _ (octets : List ℕ) (item : FeedRecord) (left now : Option (List ℕ)) 
   front : (rest : List ℕ) × (now ≡ Some rest) × (octets ≡ record_octets item ++ rest)
   front = told_front (record_octets item) octets now (sym told ∙ given)
 
-  meaning-more : (more : List ℕ) → feed_meaning (record_octets item ++ more)
-      ≡ with_roster (with_first item (feed_of (after before_feeds item) more)) 1 (feed_of (after before_feeds item) more).items (roster_in item.body)
-  unfolding feed_meaning
-  meaning-more more = ap (λ (f : Feed). meaning_of 1 f f.items) (again-more before_feeds item form lawful more (starts item lawful))
+  meaning-more : (more : List ℕ) → narrowed (record_octets item ++ more)
+      ≡ with_roster unread_fault (with_first item (feed_of (after before_feeds item) more)) 1 (feed_of (after before_feeds item) more).items (roster_in item.body)
+  unfolding meaning_by
+  meaning-more more = ap (λ (f : Feed). meaning_of unread_fault 1 f f.items) (again-more before_feeds item form lawful more (starts item lawful))
 
   pub faulty_roster-ends : (line : ℕ) (why : RosterWhy) (taken : Option (List ℕ)) → roster_in item.body ≡ Err (record { line = line; why = why }) → Answers (status.Roster 1 line why) octets now taken taken
   faulty_roster-ends line why taken faulty =
-      let meaning_is = ap feed_meaning front.2 ∙ meaning-more front.0
-      ∙ ap (with_roster (with_first item (feed_of (after before_feeds item) front.0)) 1 (feed_of (after before_feeds item) front.0).items) faulty in
+      let meaning_is = ap narrowed front.2 ∙ meaning-more front.0
+      ∙ ap (with_roster unread_fault (with_first item (feed_of (after before_feeds item) front.0)) 1 (feed_of (after before_feeds item) front.0).items) faulty in
       record {
         ended = rw meaning_is refl;
         through = λ is. absurd cc;
@@ -98,9 +99,9 @@ module _ (octets : List ℕ) (item : FeedRecord) (left now : Option (List ℕ)) 
       }
 
   module _ (roster : RosterOf) (is_read : roster_in item.body ≡ Ok roster) where
-    meaning-read : (more : List ℕ) → feed_meaning (record_octets item ++ more)
-        ≡ with_roster (with_first item (feed_of (after before_feeds item) more)) 1 (feed_of (after before_feeds item) more).items (Ok roster)
-    meaning-read more = meaning-more more ∙ ap (with_roster (with_first item (feed_of (after before_feeds item) more)) 1 (feed_of (after before_feeds item) more).items) is_read
+    meaning-read : (more : List ℕ) → narrowed (record_octets item ++ more)
+        ≡ with_roster unread_fault (with_first item (feed_of (after before_feeds item) more)) 1 (feed_of (after before_feeds item) more).items (Ok roster)
+    meaning-read more = meaning-more more ∙ ap (with_roster unread_fault (with_first item (feed_of (after before_feeds item) more)) 1 (feed_of (after before_feeds item) more).items) is_read
 
     stops-more : (more written : List ℕ) → StopsFrom (fresh roster) (after before_feeds item) more written → StopsFor (record_octets item ++ more) ([] ++ written)
     stops-more more written h = rw (meaning-read more) (record {
@@ -121,7 +122,7 @@ module _ (octets : List ℕ) (item : FeedRecord) (left now : Option (List ℕ)) 
       front.0,
       front.1,
       λ answer later before final h.
-          let meaning_is = ap feed_meaning front.2 ∙ meaning-read front.0 in
+          let meaning_is = ap narrowed front.2 ∙ meaning-read front.0 in
           record {
             ended = rw meaning_is h.ended;
             through = λ is. h.through is ∙ ap (λ (m : FeedMeaning). Some m.left) (sym meaning_is);

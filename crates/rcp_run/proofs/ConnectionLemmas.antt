@@ -5,7 +5,8 @@ use Rattle.std.proofs.lemmas.Bool.{cases_Bool, eqb-true}
 use Rattle.rcp_model.specs.Maps.{get_at, set_at}
 use Rattle.rcp_model.specs.LinkState.{same_number}
 use Rattle.rcp_model.specs.Sessions.{SessionState, is_closed, seat_of}
-use Rattle.feed_meaning.specs.Platform.{Connections, connection_at, if_open, is_slot, is_free}
+use Rattle.feed_meaning.specs.Platform.{Connections}
+use Rattle.feed_meaning.specs.SessionTurns.{connection_at, if_open, is_slot, is_free}
 use Rattle.rcp_run.specs.declared.engine.Connection.{Connection}
 use Rattle.rcp_run.specs.State.{connection_in, connections_in, AreNumbered, numbers_of}
 use Rattle.rcp_run.proofs.ListMaps.{IsPlace, without_found, put_found, all_removed}

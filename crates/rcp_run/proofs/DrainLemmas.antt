@@ -15,15 +15,19 @@ use Rattle.rcp_model.specs.LinkState.{same_number}
 use Rattle.rcp_model.specs.Updates.{Table}
 use Rattle.rcp_model.specs.Edges.{rising_edges}
 use Rattle.rcp_model.specs.Costs.{cost}
-use Rattle.rcp_model.specs.RouteServer.{Domain, Server, Work, same_octets, announced_prefixes, table_of, router_at, cost_between, slot_cost, offer, after, after_all, announced_at}
+use Rattle.rcp_model.specs.RouteServer.{Domain, Server, Work, same_octets, announced_prefixes, table_of, router_at, cost_between, slot_cost, announced_at, offer, after, after_all}
 use Rattle.rcp_model.specs.Sessions.{slot_in}
-use Rattle.feed_meaning.specs.Platform.{Connections, Platform, domain_of, work_events, cell_update, changed_cells, slot_cells, messages_to, drained, counted, SUMMARY, summary, drained_server, drain_messages, drain}
+use Rattle.rcp_model.specs.Cells.{Cell}
+use Rattle.feed_meaning.specs.Platform.{Connections, Platform, domain_of}
+use Rattle.feed_meaning.specs.OutRecords.{SUMMARY, messages_to, counted, summary}
+use Rattle.feed_meaning.specs.Work.{cell_update, changed_cells, updates_for, slot_updates, updates_sent, work_events, worked_server, work_updates, drain_act}
 use Rattle.rcp_base.proofs.MapLemmas.{get_at-set_at_same, get_at-set_at_other, same_prefix-is, same_prefix-itself, same_prefix-other, prefix_test}
 use Rattle.rcp_run.specs.declared.costs.Reached.{Reached}
-use Rattle.rcp_run.specs.State.{cost_in, cost_to, costs_in, IsRising, table_told, tables_told, cell_told, updates_told, messages_told, messages_of, told_to, records_told, table_in, router_in, tables_in}
+use Rattle.rcp_model.specs.Rising.{IsRising}
+use Rattle.rcp_run.specs.State.{cost_in, cost_to, costs_in, table_told, tables_told, cell_told, updates_told, messages_told, messages_of, told_to, records_told, table_in, router_in, tables_in}
 use Rattle.rcp_run.specs.declared.engine.events.Router.{Router}
 use Rattle.rcp_run.proofs.ListMaps.{changed_at, changed_all}
-use Rattle.rcp_run.proofs.RisingLemmas.{not_among}
+use Rattle.rcp_model.proofs.RisingLemmas.{not_among}
 use Rattle.rcp_run.proofs.RelaxLemmas.{cost-rising}
 use Rattle.rcp_run.proofs.DecisionLemmas.{router_got, router-past}
 use Rattle.rcp_run.proofs.EventLemmas.{server_is}
@@ -113,24 +117,26 @@ same_first q p ps out inside =
     ]
 
 cells-told : (offers : IpPrefix → Option (List ℕ)) (ps : List IpPrefix) (t before : Table) → IsRising ps → ((q : IpPrefix) → is_among ps q ≡ true → get_at same_prefix q before ≡ get_at same_prefix q t)
-    → changed_cells ps (Some before) (Some (table_told offers ps t)) ≡ updates_told offers ps t
+    → updates_for (changed_cells ps (Some before) (Some (table_told offers ps t))) ≡ updates_told offers ps t
+unfolding updates_for
 cells-told offers [] t before rising same = refl
 cells-told offers (p ∷ ps) t before rising same =
     let out : is_among ps p ≡ false = not_among p ps rising.0 in
     let now : get_at same_prefix p (table_told offers ps (set_at same_prefix p (offers p) t)) ≡ offers p =
     told-other offers ps (set_at same_prefix p (offers p) t) p out ∙ get_at-set_at_same same_prefix prefix_test p (offers p) t in
     let then : get_at same_prefix p before ≡ get_at same_prefix p t = same p (or_left (same_prefix p p) (is_among ps p) (same_prefix-itself p)) in
-    let rest : changed_cells ps (Some before) (Some (table_told offers ps (set_at same_prefix p (offers p) t))) ≡ updates_told offers ps (set_at same_prefix p (offers p) t) =
+    let rest : updates_for (changed_cells ps (Some before) (Some (table_told offers ps (set_at same_prefix p (offers p) t)))) ≡ updates_told offers ps (set_at same_prefix p (offers p) t) =
     cells-told offers ps (set_at same_prefix p (offers p) t) before rising.1 (λ q inside.
     let other : same_prefix q p ≡ false = same_first q p ps out inside in
     same q (or_right (same_prefix q p) (is_among ps q) inside) ∙ sym (get_at-set_at_other same_prefix prefix_test p q (offers p) t other (same_prefix-other q p other))) in
-    rw (now, then, rest) (one (same_octets (get_at same_prefix p t) (offers p))) where
-      one : (b : Bool) → cond b (updates_told offers ps (set_at same_prefix p (offers p) t)) (cell_update p (offers p) ∷ updates_told offers ps (set_at same_prefix p (offers p) t))
-          ≡ cond b [] (cell_update p (offers p) ∷ []) ++ updates_told offers ps (set_at same_prefix p (offers p) t)
-      one true = refl
-      one false = refl
+    rw (now, then) (one (same_octets (get_at same_prefix p t) (offers p)) _ _ rest) where
+      one : (b : Bool) (cells : List Cell) (told : List (List ℕ)) → updates_for cells ≡ told
+          → updates_for (cond b cells ((p, offers p) ∷ cells)) ≡ cond b [] (cell_update p (offers p) ∷ []) ++ told
+      one true cells told is = is
+      one false cells told is = ap (λ (l : List (List ℕ)). cell_update p (offers p) ∷ l) is
 
-no_cells : (ps : List IpPrefix) → changed_cells ps None None ≡ []
+no_cells : (ps : List IpPrefix) → updates_for (changed_cells ps None None) ≡ []
+unfolding updates_for
 no_cells [] = refl
 no_cells (p ∷ ps) = no_cells ps
 
@@ -140,7 +146,7 @@ module _ (p : Platform) (rising : IsRising p.server.pending) where
   abbrev offers : ℕ → IpPrefix → Option (List ℕ)
   offers slot q = offer (domain_of p.roster) (announced_at p.server.announcements q) p.server.edges slot
 
-  pub drained_is : drained_server p ≡ record { tables = tables_told offers p.server.pending p.server.tables; announcements = p.server.announcements; pending = []; edges = p.server.edges }
+  pub drained_is : worked_server p.server.pending p ≡ record { tables = tables_told offers p.server.pending p.server.tables; announcements = p.server.announcements; pending = []; edges = p.server.edges }
   drained_is =
       work_all (domain_of p.roster) p.server.pending p.server
       ∙ server_is (record { tables = tables_told offers p.server.pending p.server.tables; announcements = p.server.announcements; pending = without_all p.server.pending p.server.pending; edges = p.server.edges })
@@ -148,33 +154,33 @@ module _ (p : Platform) (rising : IsRising p.server.pending) where
       refl refl (all_gone p.server.pending p.server.pending (among-itself p.server.pending)) refl
 
   slot_told : (slot : ℕ) → messages_of (get_at same_number slot (messages_told offers p.server.pending p.server.tables))
-      ≡ changed_cells p.server.pending (table_of p.server slot) (get_at same_number slot (tables_told offers p.server.pending p.server.tables))
+      ≡ updates_for (changed_cells p.server.pending (table_of p.server slot) (get_at same_number slot (tables_told offers p.server.pending p.server.tables)))
   slot_told slot =
       rw (messages-told offers p.server.pending p.server.tables slot, table-told offers p.server.pending p.server.tables slot) (told (get_at same_number slot p.server.tables)) where
-        told : (t : Option Table) → messages_of (option_map (updates_told (offers slot) p.server.pending) t) ≡ changed_cells p.server.pending t (option_map (table_told (offers slot) p.server.pending) t)
+        told : (t : Option Table) → messages_of (option_map (updates_told (offers slot) p.server.pending) t) ≡ updates_for (changed_cells p.server.pending t (option_map (table_told (offers slot) p.server.pending) t))
         told None = sym (no_cells p.server.pending)
         told (Some t) = sym (cells-told (offers slot) p.server.pending t t rising (λ q inside. refl))
 
-  pub records_are : records_told (messages_told offers p.server.pending p.server.tables) p.connections ≡ drain_messages p
+  pub records_are : records_told (messages_told offers p.server.pending p.server.tables) p.connections ≡ work_updates p.server.pending p
   records_are = rw drained_is (each p.connections) where
     of_slot : (o : Option ℕ) → told_to (messages_told offers p.server.pending p.server.tables) o
-        ≡ slot_cells p.server.pending p.server (record { tables = tables_told offers p.server.pending p.server.tables; announcements = p.server.announcements; pending = []; edges = p.server.edges }) o
+        ≡ slot_updates p.server.pending p.server (record { tables = tables_told offers p.server.pending p.server.tables; announcements = p.server.announcements; pending = []; edges = p.server.edges }) o
     of_slot None = refl
     of_slot (Some slot) = slot_told slot
 
     each : (es : Connections) → records_told (messages_told offers p.server.pending p.server.tables) es
-        ≡ drained p.server.pending p.server (record { tables = tables_told offers p.server.pending p.server.tables; announcements = p.server.announcements; pending = []; edges = p.server.edges }) es
+        ≡ updates_sent p.server.pending p.server (record { tables = tables_told offers p.server.pending p.server.tables; announcements = p.server.announcements; pending = []; edges = p.server.edges }) es
     each [] = refl
     each (e ∷ es) =
         ap (λ (l : List (List ℕ)). messages_to e.0 l ++ records_told (messages_told offers p.server.pending p.server.tables) es) (of_slot (slot_in e.1.phase))
-        ∙ ap (λ (l : List OutRecord). messages_to e.0 (slot_cells p.server.pending p.server (record { tables = tables_told offers p.server.pending p.server.tables; announcements = p.server.announcements; pending = []; edges = p.server.edges }) (slot_in e.1.phase)) ++ l) (each es)
+        ∙ ap (λ (l : List OutRecord). messages_to e.0 (slot_updates p.server.pending p.server (record { tables = tables_told offers p.server.pending p.server.tables; announcements = p.server.announcements; pending = []; edges = p.server.edges }) (slot_in e.1.phase)) ++ l) (each es)
 
-  pub drain_is : (q : Platform) → q.roster ≡ p.roster → q.connections ≡ p.connections → q.moment ≡ p.moment
+  pub drain_is : (q : Platform) → q.roster ≡ p.roster → q.connections ≡ p.connections → q.moment ≡ p.moment → q.stream ≡ p.stream → q.link_state ≡ p.link_state
       → q.server.tables ≡ tables_told offers p.server.pending p.server.tables → q.server.announcements ≡ p.server.announcements → q.server.pending ≡ [] → q.server.edges ≡ p.server.edges
-      → q.updates ≡ min (p.updates + length (drain_messages p)) (2 ^ 64 - 1) → q ≡ drain p
-  drain_is q roster connections moment tables announcements pending edges updates =
-      let server : q.server ≡ drained_server p = server_is q.server (record { tables = tables_told offers p.server.pending p.server.tables; announcements = p.server.announcements; pending = []; edges = p.server.edges }) tables announcements pending edges ∙ sym drained_is in
-      λ i. record { roster = roster i; connections = connections i; moment = moment i; server = server i; updates = updates i }
+      → q.updates ≡ min (p.updates + length (work_updates p.server.pending p)) (2 ^ 64 - 1) → q ≡ (drain_act p).after
+  drain_is q roster connections moment stream links tables announcements pending edges updates =
+      let server : q.server ≡ worked_server p.server.pending p = server_is q.server (record { tables = tables_told offers p.server.pending p.server.tables; announcements = p.server.announcements; pending = []; edges = p.server.edges }) tables announcements pending edges ∙ sym drained_is in
+      λ i. record { roster = roster i; connections = connections i; moment = moment i; stream = stream i; link_state = links i; server = server i; updates = updates i }
 
 -- ---- the prefixes for one router, one after another
 

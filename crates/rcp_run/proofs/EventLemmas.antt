@@ -10,7 +10,7 @@ use Rattle.rcp_model.specs.Updates.{Table}
 use Rattle.rcp_model.specs.RouteServer.{Domain, Place, Announcements, Server, ServerEvent, Up, Down, Change, same_place, same_octets, announced_by, announced_prefixes, of_slot, is_connected, after, after_all}
 use Rattle.rcp_model.specs.Sessions.{Doing}
 use Rattle.rcp_model.specs.Telling.{IsTold}
-use Rattle.feed_meaning.specs.Platform.{server_event, seat_events, end_events}
+use Rattle.feed_meaning.specs.SessionTurns.{server_event, seat_events, end_events}
 use Rattle.session_core.specs.declared.actions.SessionEvent.{SessionEvent as Told}
 use Rattle.session_core.specs.declared.actions.Closed.{Closed as ClosedBy}
 use Rattle.session_core.specs.Shown.{event_of, ending_of}

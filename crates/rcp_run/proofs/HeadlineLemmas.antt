@@ -7,11 +7,12 @@ use Rattle.std.proofs.lemmas.List.Elements.{All-drop, All-take}
 use Rattle.rcp_base.specs.Feed.{FeedState, FeedRecord, Feed, begins, is_finish, length_at, frame_size, before_feeds, after, front, feed_within, feed_of}
 use Rattle.rcp_base.specs.Roster.{FaultyLine}
 use Rattle.rcp_model.specs.Rosters.{RosterOf, roster_in}
-use Rattle.feed_meaning.specs.Platform.{NumbersRise}
+use Rattle.feed_meaning.specs.Runs.{NumbersRise}
 use Rattle.rcp_model.specs.Telling.{AreOctets}
-use Rattle.feed_meaning.specs.WholeFeeds.{unread_fault, read_of, with_roster, meaning_of, feed_meaning, HeadlineWritten}
+use Rattle.feed_meaning.specs.WholeFeeds.{meaning_by, read_of, with_roster, meaning_of, HeadlineWritten}
+use Rattle.rcp_run.specs.Narrowing.{unread_fault, narrowed}
 use Rattle.rcp_run.proofs.FeedLemmas.{StandsInFront, stands, cases_front, within-last, within-more, within-fault, new_number}
-use Rattle.feed_meaning.proofs.CodecLemmas.{headline}
+use Rattle.feed_meaning.proofs.HeadlineLemmas.{headline}
 
 -- ---- what the headline asks of records
 
@@ -61,12 +62,12 @@ within_numbered (suc most) state octets all =
 
 -- ---- fronts of them
 
-read_numbered : (roster : RosterOf) (last : ℕ) (items : List FeedRecord) → AreNumbered last items → AreNumbered last (read_of roster items)
+read_numbered : (roster : RosterOf) (last : ℕ) (items : List FeedRecord) → AreNumbered last items → AreNumbered last (read_of (unread_fault roster) items)
 read_numbered roster last [] h = h
 read_numbered roster last (item ∷ items) h =
     elim (cases_Bool (is_some (unread_fault roster item))) [
       | inl e ↦ rw e (none_numbered last)
-      | inr e ↦ rw e (more_numbered last item (read_of roster items) h.bodies.0 h.numbers.0
+      | inr e ↦ rw e (more_numbered last item (read_of (unread_fault roster) items) h.bodies.0 h.numbers.0
           (read_numbered roster (if begins item.kind then item.source else last) items (record { bodies = h.bodies.1; numbers = h.numbers.1 })))
     ]
 
@@ -90,19 +91,19 @@ rises_below low last (item ∷ items) le h = (
 
 -- ---- a whole feed
 
-roster_numbered : (feed : Feed) (items : List FeedRecord) (found : Result RosterOf FaultyLine) → AreNumbered 0 items → AreNumbered 0 (with_roster feed 1 items found).items
+roster_numbered : (feed : Feed) (items : List FeedRecord) (found : Result RosterOf FaultyLine) → AreNumbered 0 items → AreNumbered 0 (with_roster unread_fault feed 1 items found).items
 roster_numbered feed items (Ok roster) h = read_numbered roster 0 items h
 roster_numbered feed items (Err fault) h = none_numbered 0
 
-meaning_numbered : (feed : Feed) (items : List FeedRecord) → AreNumbered 0 items → AreNumbered 0 (meaning_of 1 feed items).items
+meaning_numbered : (feed : Feed) (items : List FeedRecord) → AreNumbered 0 items → AreNumbered 0 (meaning_of unread_fault 1 feed items).items
 meaning_numbered feed [] h = h
 meaning_numbered feed (first ∷ items) h =
     roster_numbered feed items (roster_in first.body)
     (record { bodies = h.bodies.1; numbers = rises_below 0 (if begins first.kind then first.source else 0) items (omega arith) h.numbers.1 })
 
-pub headline_of : (octets written : List ℕ) → AreOctets octets → HeadlineWritten (feed_meaning octets) written
-unfolding feed_meaning
+pub headline_of : (octets written : List ℕ) → AreOctets octets → HeadlineWritten (narrowed octets) written
+unfolding meaning_by
 headline_of octets written all roster count more is whole =
     let feed = feed_of before_feeds octets in
-    let numbered = take_numbered count 0 (feed_meaning octets).items (meaning_numbered feed feed.items (within_numbered (length octets + 1) before_feeds octets all)) in
-    headline roster (take count (feed_meaning octets).items) numbered.bodies numbered.numbers
+    let numbered = take_numbered count 0 (narrowed octets).items (meaning_numbered feed feed.items (within_numbered (length octets + 1) before_feeds octets all)) in
+    headline roster (take count (narrowed octets).items) numbered.bodies numbered.numbers

@@ -8,7 +8,12 @@ use Rattle.rcp_base.specs.Feed.{FeedRecord, begins, moment_of}
 use Rattle.rcp_model.specs.Maps.{put_at, set_at, without}
 use Rattle.rcp_model.specs.LinkState.{same_number}
 use Rattle.rcp_model.specs.Sessions.{SessionState, Answer, Moment, End}
-use Rattle.feed_meaning.specs.Platform.{Platform, Connections, Turn, is_free, claim_turn, octets_turn, simple_turn, connection_at, ready_turn, slot_named, turns_of, if_open, after_turn, after_turns, record_turns, noted, is_drain, step}
+use Rattle.feed_meaning.specs.LinkStream.{LinkStream, Reading, Lost}
+use Rattle.feed_meaning.specs.Platform.{Platform, Connections}
+use Rattle.feed_meaning.specs.SessionTurns.{Turn, is_free, claim_turn, octets_turn, simple_turn, connection_at, ready_turn, slot_named, turns_of, if_open, after_turn, after_turns, record_turns, noted, turns_act}
+use Rattle.feed_meaning.specs.LinkRecords.{stream_act, links_act}
+use Rattle.feed_meaning.specs.Work.{work_act}
+use Rattle.feed_meaning.specs.Runs.{act}
 
 abbrev AtMost : ℕ → Connections → Type 0
 AtMost last connections = AllByRecursion (λ entry. entry.0 ≤ last) connections
@@ -86,42 +91,55 @@ turns-most last number platform body kind.Finish h all = tt
 
 -- ---- a record
 
-step-most : (last : ℕ) (platform : Platform) (item : FeedRecord) → (begins item.kind ≡ true → item.source ≤ last) → AtMost last platform.connections → AtMost last (step platform item).connections
-unfolding step
-step-most last platform item h all =
-    elim (cases_Bool (is_drain item.kind)) [
-      | inl e ↦ rw e all
-      | inr e ↦ rw e (after-most last (record_turns platform item) (noted item platform) (turns-most last item.source platform item.body item.kind h all) all)
-    ]
+links-most : (last : ℕ) (platform : Platform) (body : List ℕ) (k : Kind) → AtMost last platform.connections → AtMost last (links_act platform body k).after.connections
+links-most last platform body kind.Links all = stream-most platform.stream where
+  stream-most : (stream : LinkStream) → AtMost last (stream_act stream body platform).after.connections
+  stream-most (Reading held place) = all
+  stream-most Lost = all
+links-most last platform body kind.Time all = all
+links-most last platform body kind.Roster all = all
+links-most last platform body kind.Ready all = all
+links-most last platform body kind.Raw all = all
+links-most last platform body kind.Octets all = all
+links-most last platform body kind.Closed all = all
+links-most last platform body kind.Slice all = all
+links-most last platform body kind.Drain all = all
+links-most last platform body kind.Finish all = all
+
+work-most : (last : ℕ) (platform : Platform) (body : List ℕ) (k : Kind) → AtMost last platform.connections → AtMost last (work_act platform body k).after.connections
+work-most last platform body kind.Slice all = all
+work-most last platform body kind.Drain all = all
+work-most last platform body kind.Roster all = all
+work-most last platform body kind.Ready all = all
+work-most last platform body kind.Raw all = all
+work-most last platform body kind.Octets all = all
+work-most last platform body kind.Closed all = all
+work-most last platform body kind.Links all = all
+work-most last platform body kind.Time all = all
+work-most last platform body kind.Finish all = all
+
+act-most : (last : ℕ) (platform : Platform) (item : FeedRecord) → (begins item.kind ≡ true → item.source ≤ last) → AtMost last platform.connections → AtMost last (act platform item).after.connections
+unfolding act
+act-most last platform item h all =
+    let turned = turns_act platform item in
+    work-most last (links_act turned.after item.body item.kind).after item.body item.kind
+    (links-most last turned.after item.body item.kind
+    (after-most last (record_turns platform item) (noted item platform) (turns-most last item.source platform item.body item.kind h all) all))
 
 rises : (last next : ℕ) (connections : Connections) → last ≤ next → AtMost last connections → AtMost next connections
 rises last next [] le all = tt
 rises last next (entry ∷ entries) le all = (omega (arith, le, all.0), rises last next entries le all.1)
 
 -- none is above the greatest that was given with the record
-pub step-numbers : (last : ℕ) (platform : Platform) (item : FeedRecord) → (begins item.kind ≡ true → last < item.source)
-    → AllByRecursion (λ entry. entry.0 ≤ last) platform.connections → AllByRecursion (λ entry. entry.0 ≤ (if begins item.kind then item.source else last)) (step platform item).connections
-step-numbers last platform item new all =
+pub act-numbers : (last : ℕ) (platform : Platform) (item : FeedRecord) → (begins item.kind ≡ true → last < item.source)
+    → AllByRecursion (λ entry. entry.0 ≤ last) platform.connections → AllByRecursion (λ entry. entry.0 ≤ (if begins item.kind then item.source else last)) (act platform item).after.connections
+act-numbers last platform item new all =
     elim (cases_Bool (begins item.kind)) [
-      | inl e ↦ let above : last < item.source = new e in rw e (step-most item.source platform item (λ _. omega arith) (rises last item.source platform.connections (omega (arith, above)) all))
-      | inr e ↦ rw e (step-most last platform item (λ is. absurd (true≢false (sym is ∙ e))) all)
+      | inl e ↦ let above : last < item.source = new e in rw e (act-most item.source platform item (λ _. omega arith) (rises last item.source platform.connections (omega (arith, above)) all))
+      | inr e ↦ rw e (act-most last platform item (λ is. absurd (true≢false (sym is ∙ e))) all)
     ]
 
 -- a number above the greatest is above each
 pub all_below : (last number : ℕ) (connections : Connections) → last < number → AllByRecursion (λ entry. entry.0 ≤ last) connections → AllByRecursion (λ entry. entry.0 < number) connections
 all_below last number [] above all = tt
 all_below last number (entry ∷ entries) above all = (omega (arith, above, all.0), all_below last number entries above all.1)
-
--- ---- the roster stays
-
-after-roster : (turns : List Turn) (platform : Platform) → (after_turns turns platform).roster ≡ platform.roster
-after-roster [] platform = refl
-after-roster (turn ∷ turns) platform = after-roster turns (after_turn turn platform)
-
-pub step-roster : (platform : Platform) (item : FeedRecord) → (step platform item).roster ≡ platform.roster
-unfolding step
-step-roster platform item =
-    elim (cases_Bool (is_drain item.kind)) [
-      | inl e ↦ rw e refl
-      | inr e ↦ rw e (after-roster (record_turns platform item) (noted item platform))
-    ]

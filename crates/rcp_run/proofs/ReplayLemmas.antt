@@ -9,8 +9,10 @@ use Rattle.rcp_base.specs.declared.kinds.Kind.TheVariants as kind
 use Rattle.rcp_base.specs.declared.kinds.FeedWhy.{FeedWhy}
 use Rattle.rcp_base.specs.Feed.{FeedState, FeedRecord, Feed, IsRecord, is_finish, frame_size, record_octets, out_octets, fault_of, after, feed_of}
 use Rattle.rcp_model.specs.Rosters.{RosterOf}
-use Rattle.feed_meaning.specs.Platform.{Platform, step, output, all_output}
-use Rattle.feed_meaning.specs.WholeFeeds.{FaultyRecord, unread_fault, end_of, read_of}
+use Rattle.feed_meaning.specs.Platform.{Platform}
+use Rattle.feed_meaning.specs.Runs.{act, all_output}
+use Rattle.feed_meaning.specs.WholeFeeds.{FaultyRecord, end_of, read_of}
+use Rattle.rcp_run.specs.Narrowing.{unread_fault}
 use Rattle.feed_format.specs.Reading.{Refuses, TakesLess}
 use Rattle.feed_format.specs.Writing.{WritesLess}
 use Rattle.feed_format.specs.declared.reader.FeedRefusal.{FeedRefusal}
@@ -22,29 +24,30 @@ use Rattle.feed_format.proofs.AgainLemmas.{lawful_parts, lawful_length}
 use Rattle.rcp_run.specs.Records.{IsNext}
 use Rattle.rcp_run.specs.Answers.{status_of, EndsSo, StopsFrom, AnswersFrom, GoesWith, items_from, outputs_from, output_from}
 use Rattle.rcp_run.proofs.FeedLemmas.{no_front, feed-fault, feed-short, feed-empty, again-last, again-more, again-first, told_front, new_number}
-use Rattle.rcp_run.proofs.NumberLemmas.{step-roster, step-numbers, all_below}
+use Rattle.feed_meaning.proofs.HeadlineLemmas.{act-roster}
+use Rattle.rcp_run.proofs.NumberLemmas.{act-numbers, all_below}
 use Rattle.rcp_run.proofs.WrittenLemmas.{wrote_nothing, wrote_none, some_missing, wrote_after}
 
 -- ---- what is put out
 
 -- the octets of what is put out for a record
 abbrev pub put_out : Platform → FeedRecord → List ℕ
-put_out platform item = flat_map out_octets (output platform item)
+put_out platform item = flat_map out_octets (act platform item).out
 
 pub outputs-nil : (platform : Platform) → outputs_from platform [] ≡ []
 unfolding all_output
 outputs-nil platform = refl
 
 pub outputs-cons : (platform : Platform) (item : FeedRecord) (items : List FeedRecord)
-    → outputs_from platform (item ∷ items) ≡ put_out platform item ++ outputs_from (step platform item) items
+    → outputs_from platform (item ∷ items) ≡ put_out platform item ++ outputs_from (act platform item).after items
 unfolding all_output
-outputs-cons platform item items = flat_map-append out_octets (output platform item) (all_output (step platform item) items)
+outputs-cons platform item items = flat_map-append out_octets (act platform item).out (all_output (act platform item).after items)
 
 outputs-none : (platform : Platform) (items : List FeedRecord) → items ≡ [] → outputs_from platform items ≡ []
 outputs-none platform items none = ap (outputs_from platform) none ∙ outputs-nil platform
 
-output-finish : (platform : Platform) (k : Kind) (source : ℕ) (body : List ℕ) → is_finish k ≡ true → output platform (record { kind = k; source = source; body = body }) ≡ []
-unfolding output
+output-finish : (platform : Platform) (k : Kind) (source : ℕ) (body : List ℕ) → is_finish k ≡ true → (act platform (record { kind = k; source = source; body = body })).out ≡ []
+unfolding act
 output-finish platform kind.Finish source body e = refl
 output-finish platform kind.Roster source body e = absurd cc
 output-finish platform kind.Ready source body e = absurd cc
@@ -59,10 +62,10 @@ output-finish platform kind.Drain source body e = absurd cc
 -- ---- how a feed ends
 
 module _ (roster : RosterOf) (number : ℕ) (item : FeedRecord) (items : List FeedRecord) (fault : Option FeedWhy) where
-  end-unread : (why : FeedWhy) → unread_fault roster item ≡ Some why → end_of roster number (item ∷ items) fault ≡ FaultyRecord number why
+  end-unread : (why : FeedWhy) → unread_fault roster item ≡ Some why → end_of (unread_fault roster) number (item ∷ items) fault ≡ FaultyRecord number why
   end-unread why e = rw (end_of, e) refl
 
-  end-read : unread_fault roster item ≡ None → end_of roster number (item ∷ items) fault ≡ end_of roster (number + 1) items fault
+  end-read : unread_fault roster item ≡ None → end_of (unread_fault roster) number (item ∷ items) fault ≡ end_of (unread_fault roster) (number + 1) items fault
   end-read e = rw (end_of, e) refl
 
 -- ---- no record was given
@@ -74,7 +77,7 @@ refuses-ends platform state (refusal.Feed number why) octets now taken h less =
     record {
       ended = rw feed_is (ap (λ (n : ℕ). FaultyRecord n why) (sym h.0));
       through = λ is. absurd cc;
-      written = wrote_none taken _ (outputs-none platform (items_from platform state octets) (ap (λ (f : Feed). read_of platform.roster f.items) feed_is));
+      written = wrote_none taken _ (outputs-none platform (items_from platform state octets) (ap (λ (f : Feed). read_of (unread_fault platform.roster) f.items) feed_is));
     }
 refuses-ends platform state refusal.Read octets now taken h less =
     let part = less refl in
@@ -88,7 +91,7 @@ refuses-ends platform state refusal.Read octets now taken h less =
         rest = front.0;
         parts = front.2;
         left = front.1;
-        wrote = wrote_none taken _ (outputs-none platform (items_from platform state part.taken) (ap (read_of platform.roster) (feed-short state part.taken within)));
+        wrote = wrote_none taken _ (outputs-none platform (items_from platform state part.taken) (ap (read_of (unread_fault platform.roster)) (feed-short state part.taken within)));
       };
     }
 refuses-ends platform state refusal.NoMemory octets now taken h less =
@@ -109,37 +112,37 @@ module _ (platform : Platform) (state : FeedState) (octets : List ℕ) (item : F
       record {
         ended = rw items_are (end-unread platform.roster (state.number + 1) item first.0 (feed_of state octets).fault why unread ∙ ap (λ (n : ℕ). FaultyRecord n why) (sym count));
         through = λ is. absurd cc;
-        written = wrote_none taken _ (outputs-none platform (items_from platform state octets) (ap (read_of platform.roster) items_are ∙ none_read first.0));
+        written = wrote_none taken _ (outputs-none platform (items_from platform state octets) (ap (read_of (unread_fault platform.roster)) items_are ∙ none_read first.0));
       } where
-        none_read : (items : List FeedRecord) → read_of platform.roster (item ∷ items) ≡ []
+        none_read : (items : List FeedRecord) → read_of (unread_fault platform.roster) (item ∷ items) ≡ []
         none_read items = rw unread refl
 
   module _ (read : unread_fault platform.roster item ≡ None) where
-    read-cons : (items : List FeedRecord) → read_of platform.roster (item ∷ items) ≡ item ∷ read_of platform.roster items
+    read-cons : (items : List FeedRecord) → read_of (unread_fault platform.roster) (item ∷ items) ≡ item ∷ read_of (unread_fault platform.roster) items
     read-cons items = rw read refl
 
     pub finish-ends : (taken : Option (List ℕ)) → is_finish item.kind ≡ true → AnswersFrom platform state Done octets now taken taken
     finish-ends taken last =
         let feed_is = ap (feed_of state) front.2 ∙ again-last state item form lawful front.0 last in
-        let items_are = ap (λ (f : Feed). read_of platform.roster f.items) feed_is ∙ read-cons [] in
+        let items_are = ap (λ (f : Feed). read_of (unread_fault platform.roster) f.items) feed_is ∙ read-cons [] in
         record {
           ended = rw feed_is (end-read platform.roster (state.number + 1) item [] None read);
           through = λ is. front.1 ∙ ap (λ (f : Feed). Some f.left) (sym feed_is);
           written = wrote_none taken _ (ap (outputs_from platform) items_are ∙ outputs-cons platform item []
-              ∙ ap (λ (o : _). flat_map out_octets o ++ outputs_from (step platform item) []) (output-finish platform item.kind item.source item.body last) ∙ outputs-nil (step platform item));
+              ∙ ap (λ (o : _). flat_map out_octets o ++ outputs_from (act platform item).after []) (output-finish platform item.kind item.source item.body last) ∙ outputs-nil (act platform item).after);
         }
 
     module _ (further : is_finish item.kind ≡ false) where
-      items-more : (more : List ℕ) → items_from platform state (record_octets item ++ more) ≡ item ∷ items_from (step platform item) (after state item) more
+      items-more : (more : List ℕ) → items_from platform state (record_octets item ++ more) ≡ item ∷ items_from (act platform item).after (after state item) more
       items-more more =
-          ap (λ (f : Feed). read_of platform.roster f.items) (again-more state item form lawful more further)
+          ap (λ (f : Feed). read_of (unread_fault platform.roster) f.items) (again-more state item form lawful more further)
           ∙ read-cons (feed_of (after state item) more).items
-          ∙ ap (λ (r : _). item ∷ read_of r (feed_of (after state item) more).items) (sym (step-roster platform item))
+          ∙ ap (λ (r : _). item ∷ read_of (unread_fault r) (feed_of (after state item) more).items) (sym (act-roster platform item))
 
-      output-more : (more : List ℕ) → output_from platform state (record_octets item ++ more) ≡ put_out platform item ++ output_from (step platform item) (after state item) more
-      output-more more = ap (outputs_from platform) (items-more more) ∙ outputs-cons platform item (items_from (step platform item) (after state item) more)
+      output-more : (more : List ℕ) → output_from platform state (record_octets item ++ more) ≡ put_out platform item ++ output_from (act platform item).after (after state item) more
+      output-more more = ap (outputs_from platform) (items-more more) ∙ outputs-cons platform item (items_from (act platform item).after (after state item) more)
 
-      stops-more : (more written : List ℕ) → StopsFrom (step platform item) (after state item) more written → StopsFrom platform state (record_octets item ++ more) (put_out platform item ++ written)
+      stops-more : (more written : List ℕ) → StopsFrom (act platform item).after (after state item) more written → StopsFrom platform state (record_octets item ++ more) (put_out platform item ++ written)
       stops-more more written h =
           let first = put_out platform item in
           record {
@@ -148,7 +151,7 @@ module _ (platform : Platform) (state : FeedState) (octets : List ℕ) (item : F
             parts = items-more more ∙ ap (λ (l : List FeedRecord). item ∷ l) h.parts;
             part = h.part;
             more = h.more;
-            wrote = ap (λ (l : List ℕ). first ++ l) h.wrote ∙ sym (append_assoc first (outputs_from (step platform item) h.before) h.part)
+            wrote = ap (λ (l : List ℕ). first ++ l) h.wrote ∙ sym (append_assoc first (outputs_from (act platform item).after h.before) h.part)
                 ∙ ap (λ (l : List ℕ). l ++ h.part) (sym (outputs-cons platform item h.before));
             missing = output-more more ∙ ap (λ (l : List ℕ). first ++ l) h.missing ∙ sym (append_assoc first written h.more);
             less = h.less;
@@ -174,7 +177,7 @@ module _ (platform : Platform) (state : FeedState) (octets : List ℕ) (item : F
                 more = drop h.count (put_out platform item);
                 wrote = ap (λ (l : List ℕ). l ++ take h.count (put_out platform item)) (sym (outputs-nil platform));
                 missing = ap (outputs_from platform) only_item ∙ outputs-cons platform item []
-                    ∙ ap (λ (l : List ℕ). put_out platform item ++ l) (outputs-nil (step platform item))
+                    ∙ ap (λ (l : List ℕ). put_out platform item ++ l) (outputs-nil (act platform item).after)
                     ∙ append-nil (put_out platform item) ∙ sym (take-append-drop h.count (put_out platform item));
                 less = some_missing h.count (put_out platform item) h.fewer;
               };
@@ -184,10 +187,10 @@ module _ (platform : Platform) (state : FeedState) (octets : List ℕ) (item : F
           only_item : items_from platform state (record_octets item) ≡ item ∷ []
           only_item =
               ap (items_from platform state) (sym (append-nil (record_octets item))) ∙ items-more []
-              ∙ ap (λ (l : List FeedRecord). item ∷ read_of (step platform item).roster l) (feed-empty (after state item))
+              ∙ ap (λ (l : List FeedRecord). item ∷ read_of (unread_fault (act platform item).after.roster) l) (feed-empty (after state item))
 
       pub goes_on : (before between : Option (List ℕ)) → between ≡ behind before (put_out platform item)
-          → (rest : List ℕ) × (now ≡ Some rest) × ((answer : Status) (later final : Option (List ℕ)) → AnswersFrom (step platform item) (after state item) answer rest later between final → AnswersFrom platform state answer octets later before final)
+          → (rest : List ℕ) × (now ≡ Some rest) × ((answer : Status) (later final : Option (List ℕ)) → AnswersFrom (act platform item).after (after state item) answer rest later between final → AnswersFrom platform state answer octets later before final)
       goes_on before between wrote = (
         front.0,
         front.1,
@@ -195,12 +198,12 @@ module _ (platform : Platform) (state : FeedState) (octets : List ℕ) (item : F
             let feed_is = ap (feed_of state) front.2 ∙ again-more state item form lawful front.0 further in
             record {
               ended = subst (EndsSo answer)
-                  (ap (λ (r : RosterOf). end_of r (state.number + 1 + 1) (feed_of (after state item) front.0).items (feed_of (after state item) front.0).fault) (step-roster platform item)
+                  (ap (λ (r : RosterOf). end_of (unread_fault r) (state.number + 1 + 1) (feed_of (after state item) front.0).items (feed_of (after state item) front.0).fault) (act-roster platform item)
                   ∙ sym (end-read platform.roster (state.number + 1) item (feed_of (after state item) front.0).items (feed_of (after state item) front.0).fault read)
-                  ∙ ap (λ (f : Feed). end_of platform.roster (state.number + 1) f.items f.fault) (sym feed_is))
+                  ∙ ap (λ (f : Feed). end_of (unread_fault platform.roster) (state.number + 1) f.items f.fault) (sym feed_is))
                   h.ended;
               through = λ is. h.through is ∙ ap (λ (f : Feed). Some f.left) (sym feed_is);
-              written = wrote_after (output_from platform state) (output_from (step platform item) (after state item)) (StopsFrom platform state) (StopsFrom (step platform item) (after state item))
+              written = wrote_after (output_from platform state) (output_from (act platform item).after (after state item)) (StopsFrom platform state) (StopsFrom (act platform item).after (after state item))
                   (record_octets item) (put_out platform item) output-more stops-more octets front.0 front.2 before between wrote answer later final h.written;
             },
       )
@@ -208,10 +211,10 @@ module _ (platform : Platform) (state : FeedState) (octets : List ℕ) (item : F
 -- ---- where the feed goes on
 
 pub goes_with_next : (old new : Platform) (state next : FeedState) (item : FeedRecord) → GoesWith old state → fault_of state item ≡ None → is_finish item.kind ≡ false
-    → new ≡ step old item → next ≡ after state item → GoesWith new next
+    → new ≡ (act old item).after → next ≡ after state item → GoesWith new next
 goes_with_next old new state next item h lawful further stepped noted = rw (stepped, noted) (record {
   going = further;
-  numbers = step-numbers state.last old item (new_number state item (lawful_parts state item lawful).body) h.numbers;
+  numbers = act-numbers state.last old item (new_number state item (lawful_parts state item lawful).body) h.numbers;
 })
 
 pub is_next : (platform : Platform) (state : FeedState) (item : FeedRecord) → GoesWith platform state → IsRecord item → fault_of state item ≡ None → unread_fault platform.roster item ≡ None → IsNext platform item

@@ -1,4 +1,4 @@
--- Sets of prefixes as rising lists: one more at its place, and what stays rising.
+-- Sets of prefixes as rising lists: one more at its place.
 use Rattle.std.proofs.Common.{◌≡◌, ℕ, zero, suc, ◌+◌, ◌<◌, Bool, true, false, ◌&&◌, ◌||◌, eqb, ltb, List, [], ◌∷◌, ◌++◌, length, get_or, drop, Some, None, refl, sym, ap, ◌∙◌, inl, inr, arith, add-one}
 use Rattle.std.specs.List.{list_any, position, insert, AllByRecursion}
 use Rattle.std.proofs.Math.Seq.{drop-cons}
@@ -9,7 +9,7 @@ use Rattle.rcp_model.specs.Maps.{same_prefix, is_before, include, include_all, i
 use Rattle.rcp_model.specs.RouteServer.{announced_prefixes}
 use Rattle.rcp_base.proofs.MapLemmas.{same_prefix-is, same_prefix-itself}
 use Rattle.rcp_run.specs.declared.announcements.Announcement.{Announcement}
-use Rattle.rcp_run.specs.State.{announcements_in, IsRising}
+use Rattle.rcp_run.specs.State.{announcements_in}
 use Rattle.rcp_run.proofs.ListMaps.{IsPlace, place_is, no_place}
 
 -- ---- one more at the first place that isn't before it
@@ -62,51 +62,3 @@ pub included_step : (entries : List Announcement) (i : ℕ) (e : Announcement) (
     → include_all (announced_prefixes (announcements_in (drop (i + 1) entries))) (include e.prefix ps) ≡ include_all (announced_prefixes (announcements_in (drop i entries))) ps
 included_step entries i e ps within is =
     rw (add-one, drop-cons entries i e within) (ap (λ (x : Announcement). include_all (announced_prefixes (announcements_in (drop (suc i) entries))) (include x.prefix ps)) is)
-
--- ---- what stays rising
-
-chain : (a b c k l m : ℕ) → (ltb a b || eqb a b && ltb k l) ≡ true → (ltb b c || eqb b c && ltb l m) ≡ true → (ltb a c || eqb a c && ltb k m) ≡ true
-chain a b c k l m h g = grind (arith, nat_tests)
-
-behind : (a b k l : ℕ) → (eqb a b && eqb k l) ≡ false → (ltb a b || eqb a b && ltb k l) ≡ false → (ltb b a || eqb b a && ltb l k) ≡ true
-behind a b k l h g = grind (arith, nat_tests)
-
-apart : (a b k l : ℕ) → (ltb a b || eqb a b && ltb k l) ≡ true → (eqb a b && eqb k l) ≡ false
-apart a b k l h = grind (arith, nat_tests)
-
-abbrev IsBelow : IpPrefix → List IpPrefix → Type 0
-IsBelow p ps = AllByRecursion (λ q. is_before p q ≡ true) ps
-
-below_chain : (p q : IpPrefix) (ps : List IpPrefix) → is_before p q ≡ true → IsBelow q ps → IsBelow p ps
-below_chain p q [] h below = tt
-below_chain p q (r ∷ ps) h below = (chain p.addr q.addr r.addr p.len q.len r.len h below.0, below_chain p q ps h below.1)
-
-below_include : (p q : IpPrefix) (ps : List IpPrefix) → is_before q p ≡ true → IsBelow q ps → IsBelow q (include p ps)
-below_include p q [] h below = (h, tt)
-below_include p q (r ∷ ps) h below =
-    elim (cases_Bool (same_prefix p r)) [
-      | inl same ↦ rw same below
-      | inr other ↦ rw other (elim (cases_Bool (is_before p r)) [
-        | inl before ↦ rw before (h, below)
-        | inr after ↦ rw after (below.0, below_include p q ps h below.1)
-      ])
-    ]
-
-pub rising-include : (p : IpPrefix) (ps : List IpPrefix) → IsRising ps → IsRising (include p ps)
-rising-include p [] rising = (tt, tt)
-rising-include p (q ∷ ps) rising =
-    elim (cases_Bool (same_prefix p q)) [
-      | inl same ↦ rw same rising
-      | inr other ↦ rw other (elim (cases_Bool (is_before p q)) [
-        | inl before ↦ rw before ((before, below_chain p q ps before rising.0), rising)
-        | inr after ↦ rw after (below_include p q ps (behind p.addr q.addr p.len q.len other after) rising.0, rising-include p ps rising.1)
-      ])
-    ]
-
-pub rising-include_all : (ps qs : List IpPrefix) → IsRising qs → IsRising (include_all ps qs)
-rising-include_all [] qs rising = rising
-rising-include_all (p ∷ ps) qs rising = rising-include_all ps (include p qs) (rising-include p qs rising)
-
-pub not_among : (p : IpPrefix) (ps : List IpPrefix) → IsBelow p ps → is_among ps p ≡ false
-not_among p [] below = refl
-not_among p (q ∷ ps) below = or_from (same_prefix p q) (is_among ps p) (apart p.addr q.addr p.len q.len below.0) (not_among p ps below.1)

@@ -7,7 +7,8 @@ use Rattle.rcp_base.specs.Feed.{OutRecord}
 use Rattle.rcp_model.specs.Rosters.{RosterOf}
 use Rattle.rcp_model.specs.Sessions.{Moment}
 use Rattle.rcp_model.specs.RouteServer.{Domain, Server, after_all}
-use Rattle.feed_meaning.specs.Platform.{Connections, simple_turn, turn_events, turn_output}
+use Rattle.feed_meaning.specs.Platform.{Connections}
+use Rattle.feed_meaning.specs.SessionTurns.{simple_turn, turn_events, turn_output}
 use Rattle.rcp_run.specs.declared.engine.Connection.{Connection}
 use Rattle.rcp_run.specs.State.{connection_in, connections_in}
 use Rattle.rcp_run.specs.Turns.{timed_in}

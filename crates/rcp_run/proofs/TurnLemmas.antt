@@ -11,7 +11,9 @@ use Rattle.rcp_model.specs.LinkState.{same_number}
 use Rattle.rcp_model.specs.RouteServer.{Domain, Server, after, after_all}
 use Rattle.rcp_model.specs.Sessions.{SessionState, Input, Octets, Seat, Moment, Answer, Doing, is_closed, then_also, answer, begun, begun_established, stepped, seat_taken, seat_of}
 use Rattle.rcp_model.specs.Telling.{AreOctets, BringsOctets, IsTold}
-use Rattle.feed_meaning.specs.Platform.{Connections, Platform, Turn, domain_of, turn, simple_turn, octets_turn, ready_turn, claim_turn, connection_at, if_open, is_slot, is_free, seat_events, turn_events, turn_output, messages_to, end_record, after_turn, after_turns}
+use Rattle.feed_meaning.specs.Platform.{Connections, Platform, domain_of}
+use Rattle.feed_meaning.specs.SessionTurns.{Turn, turn, simple_turn, octets_turn, ready_turn, claim_turn, connection_at, if_open, is_slot, is_free, seat_events, turn_events, turn_output, after_turn, after_turns}
+use Rattle.feed_meaning.specs.OutRecords.{messages_to, end_record}
 use Rattle.session_core.specs.declared.actions.Actions.{Actions}
 use Rattle.session_core.specs.Shown.{doing_of}
 use Rattle.session_core.specs.Held.{Answers}
@@ -23,15 +25,15 @@ use Rattle.rcp_run.proofs.ListMaps.{IsPlace, place_is, nothing_there}
 use Rattle.rcp_run.proofs.EventLemmas.{without_nothing, put_new, after_none, after_all-more}
 use Rattle.rcp_run.proofs.ConnectionLemmas.{all_both, set_twice, free_beside, above_none, get_set, settled, entries_settled, numbered_settled, all_settled, place_within, found_at, connected_at, disconnected, below_none, numbers_push}
 
-pub platform_is : (p q : Platform) → p.roster ≡ q.roster → p.connections ≡ q.connections → p.moment ≡ q.moment → p.server ≡ q.server → p.updates ≡ q.updates → p ≡ q
-platform_is p q a b c d e = λ i. record { roster = a i; connections = b i; moment = c i; server = d i; updates = e i }
+pub platform_is : (p q : Platform) → p.roster ≡ q.roster → p.connections ≡ q.connections → p.moment ≡ q.moment → p.stream ≡ q.stream → p.link_state ≡ q.link_state → p.server ≡ q.server → p.updates ≡ q.updates → p ≡ q
+platform_is p q a b c d e f g = λ i. record { roster = a i; connections = b i; moment = c i; stream = d i; link_state = e i; server = f i; updates = g i }
 
 -- ---- one turn
 
-pub turned : (p q : Platform) (t : Turn) → q.roster ≡ p.roster → q.moment ≡ p.moment → q.updates ≡ p.updates
+pub turned : (p q : Platform) (t : Turn) → q.roster ≡ p.roster → q.moment ≡ p.moment → q.updates ≡ p.updates → q.stream ≡ p.stream → q.link_state ≡ p.link_state
     → q.connections ≡ set_at same_number t.number (if_open t.answer.after) p.connections
     → q.server ≡ after_all (domain_of p.roster) (turn_events t) p.server → q ≡ after_turns (t ∷ []) p
-turned p q t roster moment updates connections server = platform_is q (after_turn t p) roster connections moment server updates
+turned p q t roster moment updates stream links connections server = platform_is q (after_turn t p) roster connections moment stream links server updates
 
 -- ---- a turn of the session at a place
 
@@ -167,10 +169,10 @@ pub octets-number : (p : Platform) (octets : List ℕ) (e : ℕ × SessionState)
 octets-number p octets e =
     let first = answer p.roster (Octets octets p.moment) e.1 in claim-number p e.0 (seat_of e.1.phase) first first.does.claim
 
-pub after_found : (p q : Platform) (as_number : ℕ) (ts : List Turn) (t : Turn) (zs : List Connection) → ts ≡ t ∷ [] → Settled p as_number t zs → q.roster ≡ p.roster → q.moment ≡ p.moment → q.updates ≡ p.updates
+pub after_found : (p q : Platform) (as_number : ℕ) (ts : List Turn) (t : Turn) (zs : List Connection) → ts ≡ t ∷ [] → Settled p as_number t zs → q.roster ≡ p.roster → q.moment ≡ p.moment → q.updates ≡ p.updates → q.stream ≡ p.stream → q.link_state ≡ p.link_state
     → q.connections ≡ connections_in zs → q.server ≡ after_all (domain_of p.roster) (turn_events t) p.server → q ≡ after_turns ts p
-after_found p q as_number ts t zs one done roster moment updates connections server =
-    turned p q t roster moment updates (connections ∙ done.connections) server ∙ ap (λ (l : List Turn). after_turns l p) (sym one)
+after_found p q as_number ts t zs one done roster moment updates stream links connections server =
+    turned p q t roster moment updates stream links (connections ∙ done.connections) server ∙ ap (λ (l : List Turn). after_turns l p) (sym one)
 
 -- ---- how sessions begin
 
@@ -201,13 +203,13 @@ told-established as_number slot = (tt, tt)
 -- a connection that begins
 pub begun_one : (p q : Platform) (t : Turn) (cs ds : List Connection) (new : Connection) → p.connections ≡ connections_in cs → AllByRecursion (λ (e : ℕ × SessionState). e.0 < t.number) (connections_in cs)
     → ds ≡ cs ++ new ∷ [] → new.number ≡ t.number → new.session.state ≡ t.answer.after → is_closed t.answer.after.phase ≡ false
-    → q.roster ≡ p.roster → q.moment ≡ p.moment → q.updates ≡ p.updates → q.connections ≡ connections_in ds → q.server ≡ after_all (domain_of p.roster) (turn_events t) p.server
+    → q.roster ≡ p.roster → q.moment ≡ p.moment → q.updates ≡ p.updates → q.stream ≡ p.stream → q.link_state ≡ p.link_state → q.connections ≡ connections_in ds → q.server ≡ after_all (domain_of p.roster) (turn_events t) p.server
     → q ≡ after_turns (t ∷ []) p
-begun_one p q t cs ds new connections above more number after still roster moment updates connections' server =
+begun_one p q t cs ds new connections above more number after still roster moment updates stream links connections' server =
     let absent = below_none t.number (connections_in cs) above in
     let put : set_at same_number t.number (if_open t.answer.after) (connections_in cs) ≡ connections_in cs ++ (t.number, t.answer.after) ∷ [] =
     rw still (put_new same_number t.number t.answer.after (connections_in cs) absent) in
-    turned p q t roster moment updates
+    turned p q t roster moment updates stream links
     (connections' ∙ ap connections_in more ∙ map-append connection_in cs (new ∷ [])
     ∙ ap (λ (n : ℕ). connections_in cs ++ (let e : ℕ × SessionState = (n, new.session.state) in e) ∷ []) number
     ∙ ap (λ (s : SessionState). connections_in cs ++ (let e : ℕ × SessionState = (t.number, s) in e) ∷ []) after
@@ -230,7 +232,7 @@ ready-free p number slot named some free = rw (← some) (rw free refl)
 pub ready-taken : (p : Platform) (number slot : ℕ) (named : Option ℕ) → Some slot ≡ named → is_free p.connections slot ≡ false → AllByRecursion (λ (e : ℕ × SessionState). e.0 < number) p.connections
     → p ≡ after_turns (ready_turn p number named) p
 ready-taken p number slot named some taken above =
-    rw (← some) (rw taken (turned p p (turn number None (stepped 0 [] seat_taken)) refl refl refl
+    rw (← some) (rw taken (turned p p (turn number None (stepped 0 [] seat_taken)) refl refl refl refl refl
     (sym (without_nothing same_number number p.connections (below_none number p.connections above))) (sym (after_none (domain_of p.roster) p.server))))
 
 pub served : (domain : Domain) (turn : Turn) (seat : Option ℕ) (does : Doing) (s t : Server) → seat ≡ turn.seat → does ≡ turn.answer.does
@@ -324,16 +326,16 @@ numbers_timed roster now [] = refl
 numbers_timed roster now (e ∷ es) = ap (λ (l : List ℕ). e.0 ∷ l) (numbers_timed roster now es)
 
 pub time_passed : (p q : Platform) (now : ℕ) (cs ds : List Connection) → AreNumbered (numbers_of p.connections)
-    → q.roster ≡ p.roster → q.moment ≡ now → q.updates ≡ p.updates
+    → q.roster ≡ p.roster → q.moment ≡ now → q.updates ≡ p.updates → q.stream ≡ p.stream → q.link_state ≡ p.link_state
     → connections_in cs ≡ map (timed_in p.roster now) p.connections → ds ≡ filter (λ (c : Connection). not (is_closed c.session.state.phase)) cs → q.connections ≡ connections_in ds
     → q.server ≡ after_all (domain_of p.roster) (flat_map turn_events (map (simple_turn p.roster (Moment now)) p.connections)) p.server
     → q ≡ after_turns (map (simple_turn p.roster (Moment now)) p.connections) (record p { moment = now })
-time_passed p q now cs ds numbered roster moment updates ticked left connections server =
+time_passed p q now cs ds numbered roster moment updates stream links ticked left connections server =
     platform_is q (record p {
       moment = now;
       connections = placed (map (simple_turn p.roster (Moment now)) p.connections) p.connections;
       server = after_all (domain_of p.roster) (flat_map turn_events (map (simple_turn p.roster (Moment now)) p.connections)) p.server;
     }) roster
     (connections ∙ ap connections_in left ∙ opened_in cs ∙ ap opened ticked ∙ sym (passed_all p.roster now p.connections numbered))
-    moment server updates
+    moment stream links server updates
     ∙ sym (all_turns (map (simple_turn p.roster (Moment now)) p.connections) (record p { moment = now }))

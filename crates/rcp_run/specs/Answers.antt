@@ -3,8 +3,10 @@ use Rattle.std.specs.Prelude.{◌≡◌, ◌≢◌, ℕ, ◌+◌, ◌≤◌, fal
 use Rattle.std.specs.List.{flat_map, AllByRecursion}
 use Rattle.outside.specs.Told.{Rose, behind}
 use Rattle.rcp_base.specs.Feed.{FeedRecord, FeedState, feed_of, out_octets}
-use Rattle.feed_meaning.specs.Platform.{Platform, all_output}
-use Rattle.feed_meaning.specs.WholeFeeds.{FeedEnd, Finished, FaultyRecord, FaultyRoster, StopsInLast, feed_meaning, whole_output, end_of, read_of}
+use Rattle.feed_meaning.specs.Platform.{Platform}
+use Rattle.feed_meaning.specs.Runs.{all_output}
+use Rattle.feed_meaning.specs.WholeFeeds.{FeedEnd, Finished, FaultyRecord, FaultyRoster, StopsInLast, whole_output, end_of, read_of}
+use Rattle.rcp_run.specs.Narrowing.{unread_fault, narrowed}
 use Rattle.feed_format.specs.declared.status.Status.{Status}
 use Rattle.feed_format.specs.declared.status.Status.TheVariants.{Done, Usage, Feed, Roster, Read, Write, NoMemory, NoPath, NetFault}
 use Rattle.feed_format.specs.declared.reader.FeedRefusal.{FeedRefusal}
@@ -83,10 +85,10 @@ WroteBy whole stops (NoPath refused) octets now before after = ⊥
 WroteBy whole stops NetFault octets now before after = ⊥
 
 abbrev pub output_for : List ℕ → List ℕ
-output_for octets = whole_output (feed_meaning octets)
+output_for octets = whole_output (narrowed octets)
 
 abbrev pub StopsFor : List ℕ → List ℕ → Type 0
-StopsFor octets written = StopsInLast (feed_meaning octets) written
+StopsFor octets written = StopsInLast (narrowed octets) written
 
 -- Done, Feed and Roster come after the whole output was written. At Read it was exactly the output of the whole records
 -- that were taken, at Write all but a part of the last one's, and without memory a front of the output.
@@ -97,13 +99,13 @@ WroteSo status octets now before after = WroteBy output_for StopsFor status octe
 
 -- What a status says of a feed of these octets, with what is left of them, and what the sink took before and after.
 pub record Answers (status : Status) (octets : List ℕ) (now before after : Option (List ℕ)) : Type 0 where
-  pub ended : EndsSo status (feed_meaning octets).end
-  pub through : status ≡ Done → now ≡ Some (feed_meaning octets).left
+  pub ended : EndsSo status (narrowed octets).end
+  pub through : status ≡ Done → now ≡ Some (narrowed octets).left
   pub written : WroteSo status octets now before after
 
 -- the records of octets behind those of a state that are acted on, and what is put out for them
 abbrev pub items_from : Platform → FeedState → List ℕ → List FeedRecord
-items_from platform state octets = read_of platform.roster (feed_of state octets).items
+items_from platform state octets = read_of (unread_fault platform.roster) (feed_of state octets).items
 
 abbrev pub outputs_from : Platform → List FeedRecord → List ℕ
 outputs_from platform items = flat_map out_octets (all_output platform items)
@@ -127,7 +129,7 @@ StopsFrom platform state octets written = StopsIn platform (items_from platform 
 
 -- what a status says of octets that follow the records of a state, which brought the platform where it is
 pub record AnswersFrom (platform : Platform) (state : FeedState) (status : Status) (octets : List ℕ) (now before after : Option (List ℕ)) : Type 0 where
-  pub ended : EndsSo status (end_of platform.roster (state.number + 1) (feed_of state octets).items (feed_of state octets).fault)
+  pub ended : EndsSo status (end_of (unread_fault platform.roster) (state.number + 1) (feed_of state octets).items (feed_of state octets).fault)
   pub through : status ≡ Done → now ≡ Some (feed_of state octets).left
   pub written : WroteBy (output_from platform state) (StopsFrom platform state) status octets now before after
 

@@ -1,3 +1,4 @@
+pub mod Narrowing
 pub mod Records
 pub mod State
 pub mod Turns

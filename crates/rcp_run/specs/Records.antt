@@ -3,7 +3,7 @@ use Rattle.std.specs.Prelude.{◌≡◌, ◌<◌, true, length, None}
 use Rattle.std.specs.List.{AllByRecursion}
 use Rattle.rcp_base.specs.Feed.{FeedRecord, IsRecord, begins, has_length}
 use Rattle.feed_meaning.specs.Platform.{Platform}
-use Rattle.feed_meaning.specs.WholeFeeds.{unread_fault}
+use Rattle.rcp_run.specs.Narrowing.{unread_fault}
 
 -- a record that is lawful behind those before, and is read
 pub record IsNext (platform : Platform) (item : FeedRecord) : Type 0 where

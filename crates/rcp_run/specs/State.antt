@@ -7,7 +7,12 @@ use Rattle.rcp_base.specs.Feed.{OutRecord}
 use Rattle.rcp_base.specs.declared.names.Member.{Member}
 use Rattle.rcp_model.specs.Rosters.{RosterOf}
 use Rattle.rcp_model.specs.Maps.{get_at, set_at, same_prefix, is_before}
-use Rattle.rcp_model.specs.LinkState.{same_number}
+use Rattle.rcp_model.specs.Rising.{IsRising}
+use Rattle.rcp_model.specs.LinkState.{LinkState, same_number}
+use Rattle.feed_meaning.specs.LinkStream.{Reading}
+use Rattle.feed_meaning.specs.Platform.{Connections, Platform, domain_of}
+use Rattle.feed_meaning.specs.Work.{cell_update}
+use Rattle.feed_meaning.specs.OutRecords.{messages_to}
 use Rattle.rcp_model.specs.Edges.{rising_edges}
 use Rattle.rcp_model.specs.declared.event.Edge.{Edge}
 use Rattle.rcp_model.specs.Costs.{Walk}
@@ -16,7 +21,6 @@ use Rattle.rcp_model.specs.RouteServer as control
 use Rattle.rcp_model.specs.Updates.{Table}
 use Rattle.rcp_model.specs.Sessions.{SessionState, slot_in}
 use Rattle.rcp_model.specs.Telling.{AreOctets, IsRouteOf}
-use Rattle.feed_meaning.specs.Platform.{Connections, Platform, domain_of, cell_update, messages_to}
 use Rattle.rcp_run.specs.declared.announcements.Announcement.{Announcement}
 use Rattle.rcp_run.specs.declared.table.Cell.{Cell}
 use Rattle.rcp_run.specs.declared.costs.Reached.{Reached}
@@ -65,6 +69,8 @@ platform_in e = record {
   roster = e.roster;
   connections = connections_in e.connections.items;
   moment = e.moment;
+  stream = Reading [] 0;
+  link_state = record { routers = [] };
   server = server_in e.roster.links e.server;
   updates = e.updates;
 }
@@ -74,11 +80,6 @@ platform_in e = record {
 -- a kept route is the one of its octets, which are canonical
 abbrev pub IsKept : ℕ → Announcement → Type 0
 IsKept as_number a = IsRouteOf as_number a.route
-
--- strictly rising
-abbrev pub IsRising : List IpPrefix → Type 0
-IsRising [] = Unit {0}
-IsRising (p ∷ ps) = AllByRecursion (λ q. is_before p q ≡ true) ps × IsRising ps
 
 pub record IsServer (as_number : ℕ) (server : Server) : Type 0 where
   pub routes : AllByRecursion (IsKept as_number) server.announcements.items

@@ -4,7 +4,8 @@ use Rattle.std.specs.List.{AllByRecursion}
 use Rattle.rcp_model.specs.Rosters.{RosterOf}
 use Rattle.rcp_model.specs.Sessions.{SessionState, Moment, End, begun, answer}
 use Rattle.rcp_model.specs.Telling.{IsTold}
-use Rattle.feed_meaning.specs.Platform.{Platform, Turn, turn, simple_turn, octets_turn, connection_at}
+use Rattle.feed_meaning.specs.Platform.{Platform}
+use Rattle.feed_meaning.specs.SessionTurns.{Turn, turn, simple_turn, octets_turn, connection_at}
 use Rattle.session_core.specs.declared.actions.Actions.{Actions}
 use Rattle.session_core.specs.Shown.{doing_of}
 use Rattle.rcp_run.specs.declared.engine.Connection.{Connection}

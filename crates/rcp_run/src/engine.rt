@@ -1,5 +1,5 @@
 //! The route control platform on plain lists: the sessions of the connections, and the route control server. Contracts see
-//! it as the platform of the definitions, and its step is theirs.
+//! it as the platform of the definitions, to which no link state came, and its step does what they say of a record.
 //!
 //! | Record | What is done |
 //! |---|---|
@@ -10,8 +10,10 @@
 ghost use Rattle.std.specs.Prelude.{◌≡◌, ◌^◌, ◌<◌, true, length, All, IfOk, OnOk, IfSome, Some, None, is_some, if◌then◌else◌};
 ghost use Rattle.rcp_base.specs.declared.kinds.FeedWhy.TheVariants.{UnknownRouter};
 ghost use Rattle.rcp_base.specs.Feed.{has_length};
-ghost use Rattle.feed_meaning.specs.Platform.{fresh, slot_named, step, output};
-ghost use Rattle.feed_meaning.specs.WholeFeeds.{unread_fault};
+ghost use Rattle.feed_meaning.specs.Platform.{fresh};
+ghost use Rattle.feed_meaning.specs.Runs.{act};
+ghost use Rattle.feed_meaning.specs.SessionTurns.{slot_named};
+ghost use Rattle.rcp_run.specs.Narrowing.{unread_fault};
 ghost use Rattle.rcp_run.specs.Records.{IsNext};
 ghost use Rattle.rcp_run.specs.State.{platform_in, IsSound};
 
@@ -64,7 +66,7 @@ impl Engine {
         }
     }
 
-    /// Why a lawful record isn't read, if so: an E names no router of the roster, and link state and slices of work aren't
+    /// Why a valid record isn't read, if so: an E names no router of the roster, and link state and slices of work aren't
     /// read.
     pub fn check(&self, item: &Record) -> Option<FeedWhy>
         requires { has_length item.now.kind (length item.now.body) ≡ true }
@@ -81,8 +83,8 @@ impl Engine {
     pub fn step(&mut self, item: &Record) -> Result<Vec<Out>, NoMemory>
         requires sound { IsSound self.old }
         requires next { IsNext (platform_in self.old) item.now }
-        ensures platform { OnOk result (platform_in self.new ≡ step (platform_in self.old) item.now) }
-        ensures output { IfOk result (λ outs. outs.items ≡ output (platform_in self.old) item.now) }
+        ensures platform { OnOk result (platform_in self.new ≡ (act (platform_in self.old) item.now).after) }
+        ensures output { IfOk result (λ outs. outs.items ≡ (act (platform_in self.old) item.now).out) }
         ensures fits { IfOk result (λ outs. All (λ out. length out.body < 2 ^ 32) outs.items) }
         ensures sound { OnOk result (IsSound self.new) }
     {

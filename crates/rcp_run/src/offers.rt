@@ -12,7 +12,7 @@ ghost use Rattle.std.specs.Prelude.{◌≡◌, ℕ, ◌≤◌, length, option_ma
 ghost use Rattle.std.specs.List.{list_any, AllByRecursion};
 ghost use Rattle.rcp_model.specs.Edges.{rising_edges};
 ghost use Rattle.rcp_model.specs.Decision.{unbeaten, has_higher_preference, has_shorter_path, has_lower_origin, has_lower_exit, tied, is_of, is_nearer, nearest, contender};
-ghost use Rattle.rcp_model.specs.RouteServer.{Domain, announced_by, announcement_contender, candidates_from, slot_cost, unless_own, announced_at};
+ghost use Rattle.rcp_model.specs.RouteServer.{Domain, announced_by, announced_at, announcement_contender, candidates_from, slot_cost, unless_own};
 ghost use Rattle.feed_meaning.specs.Platform.{domain_of};
 ghost use Rattle.rcp_run.specs.State.{announcements_in, offers_to, cost_in, costs_in, IsKept};
 

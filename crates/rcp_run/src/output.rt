@@ -3,7 +3,8 @@
 ghost use Rattle.std.specs.Prelude.{◌≡◌, ◌≤◌, ◌++◌, ◌∷◌, [], length, option_map, OnOk, IfOk, Some, None};
 ghost use Rattle.std.specs.Int.{w64, to_be_bytes};
 ghost use Rattle.rcp_model.specs.Sessions.{Ending};
-ghost use Rattle.feed_meaning.specs.Platform.{MESSAGE as MESSAGE_KIND, SUMMARY as SUMMARY_KIND, cell_update, messages_to, end_record, reason_number};
+ghost use Rattle.feed_meaning.specs.OutRecords.{MESSAGE as MESSAGE_KIND, SUMMARY as SUMMARY_KIND, messages_to, end_record, reason_number};
+ghost use Rattle.feed_meaning.specs.Work.{cell_update};
 ghost use Rattle.session_core.specs.Shown.{reason_of, ending_of};
 ghost use Rattle.rcp_run.specs.State.{AreFramed, AreShort, octets_in};
 

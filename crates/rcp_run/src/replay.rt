@@ -6,7 +6,8 @@ ghost use Rattle.outside.specs.Told.{Rose, NeverFalls, behind};
 ghost use Rattle.rcp_base.specs.Feed.{before_feeds, is_finish, out_octets};
 ghost use Rattle.feed_format.specs.Writing.{WritesLess};
 ghost use Rattle.rcp_model.specs.Telling.{AreOctets};
-ghost use Rattle.feed_meaning.specs.WholeFeeds.{Finished, feed_meaning, HeadlineWritten};
+ghost use Rattle.feed_meaning.specs.WholeFeeds.{Finished, HeadlineWritten};
+ghost use Rattle.rcp_run.specs.Narrowing.{narrowed};
 ghost use Rattle.rcp_run.specs.Answers.{status_of, HasCause, EndsSo, WroteSo, Answers, AnswersFrom, GoesWith, Begins, GoesOn};
 ghost use Rattle.rcp_run.specs.State.{platform_in, IsSound};
 
@@ -39,11 +40,11 @@ pub fn run<R: Threads + Sync, S: Source, K: Sink>(
 
     // Done comes only where the feed ended at its Z, Feed exactly at the first faulty record, and Roster at the first
     // faulty line of the roster.
-    ensures ended { (octets : List ℕ) → S.left source.old ≡ Some octets → EndsSo result (feed_meaning octets).end }
+    ensures ended { (octets : List ℕ) → S.left source.old ≡ Some octets → EndsSo result (narrowed octets).end }
 
     // On Done the feed was read through its Z, and no octet after it was taken.
     ensures through { result ≡ Status.Done → (octets : List ℕ) → S.left source.old ≡ Some octets
-        → S.left source.new ≡ Some (feed_meaning octets).left }
+        → S.left source.new ≡ Some (narrowed octets).left }
 
     // What was written is the output of the feed's records, as far as the status says.
     ensures written { (octets : List ℕ) → S.left source.old ≡ Some octets
@@ -52,11 +53,11 @@ pub fn run<R: Threads + Sync, S: Source, K: Sink>(
     // The headline: for the records whose output was wholly written, each connected router was sent octets that replay,
     // at each prefix that isn't pending, to exactly what it is offered.
     ensures headline { (octets written : List ℕ) → S.left source.old ≡ Some octets → AreOctets octets
-        → K.taken sink.new ≡ behind (K.taken sink.old) written → HeadlineWritten (feed_meaning octets) written }
+        → K.taken sink.new ≡ behind (K.taken sink.old) written → HeadlineWritten (narrowed octets) written }
 
     // A lawful word, a feed that ends at its Z and no fault of source or sink give Done, or NoMemory.
     ensures complete { map (λ word. word.now) words.now ≡ codes "replay" ∷ [] → (octets : List ℕ) → S.left source.old ≡ Some octets
-        → (feed_meaning octets).end ≡ Finished
+        → (narrowed octets).end ≡ Finished
         → (Rose (S.faults source.old) (S.faults source.new) → ⊥) → (Rose (K.faults sink.old) (K.faults sink.new) → ⊥)
         → (result ≡ Status.Done) ⊎ (result ≡ Status.NoMemory) }
 {

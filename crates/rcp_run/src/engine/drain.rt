@@ -7,7 +7,8 @@ ghost use Rattle.rcp_model.specs.Edges.{rising_edges};
 ghost use Rattle.rcp_model.specs.LinkState.{same_number};
 ghost use Rattle.rcp_model.specs.RouteServer.{slot_cost};
 ghost use Rattle.rcp_model.specs.Sessions.{slot_in};
-ghost use Rattle.feed_meaning.specs.Platform.{drain, drain_output, summary, messages_to};
+ghost use Rattle.feed_meaning.specs.Work.{drain_act};
+ghost use Rattle.feed_meaning.specs.OutRecords.{summary, messages_to};
 ghost use Rattle.rcp_run.specs.State.{table_in, tables_in, connections_in, server_in, platform_in, IsKept, IsSound, AreFramed, AreShort, costs_in, offers_to, table_told, tables_told, updates_told, messages_told, cell_told, octets_in, told_in, told_to, messages_of, records_told};
 
 use super::{Connection, Engine};
@@ -29,8 +30,8 @@ impl Engine {
     /// and a summary.
     pub fn drain(&mut self) -> Result<Vec<Out>, NoMemory>
         requires { IsSound self.old }
-        ensures platform { OnOk result (platform_in self.new ≡ drain (platform_in self.old)) }
-        ensures output { IfOk result (λ out. out.items ≡ drain_output (platform_in self.old)) }
+        ensures platform { OnOk result (platform_in self.new ≡ (drain_act (platform_in self.old)).after) }
+        ensures output { IfOk result (λ out. out.items ≡ (drain_act (platform_in self.old)).out) }
         ensures framed { IfOk result (λ out. AreFramed out.items) }
         ensures sound { OnOk result (IsSound self.new) }
     {

@@ -7,7 +7,7 @@ ghost use Rattle.rcp_model.specs.LinkState.{same_number};
 ghost use Rattle.rcp_model.specs.declared.event.Edge.{Edge};
 ghost use Rattle.rcp_model.specs.RouteServer.{Domain, Up, Down, Change, after, after_all, is_connected};
 ghost use Rattle.rcp_model.specs.Telling.{IsRouteOf, IsTold};
-ghost use Rattle.feed_meaning.specs.Platform.{server_event};
+ghost use Rattle.feed_meaning.specs.SessionTurns.{server_event};
 ghost use Rattle.session_core.specs.Shown.{event_of};
 ghost use Rattle.rcp_run.specs.State.{table_in, tables_in, server_in, IsServer};
 

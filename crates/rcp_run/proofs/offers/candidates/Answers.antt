@@ -1,6 +1,6 @@
 use Rattle.std.proofs.Common.{◌≡◌, ◌++◌, List, sym, subst, ◌∙◌, ap, ◌+◌, drop, Vec, Global}
 use Rattle.rcp_model.specs.Decision.{Contender}
-use Rattle.rcp_model.specs.RouteServer.{candidates_from, announced_at}
+use Rattle.rcp_model.specs.RouteServer.{announced_at, candidates_from}
 use Rattle.feed_meaning.specs.Platform.{domain_of}
 use Rattle.rcp_run.specs.State.{announcements_in, costs_in}
 use Rattle.rcp_run.specs.declared.offers.Candidate.{Candidate}

@@ -1,6 +1,6 @@
 -- With the candidates of the other members they are those of all.
 use Rattle.std.proofs.Common.{◌≡◌, ◌++◌, drop}
-use Rattle.rcp_model.specs.RouteServer.{candidates_from, announced_at}
+use Rattle.rcp_model.specs.RouteServer.{announced_at, candidates_from}
 use Rattle.feed_meaning.specs.Platform.{domain_of}
 use Rattle.rcp_run.specs.State.{announcements_in, costs_in}
 use Rattle.rcp_run.proofs.offers.candidates.Given as goal

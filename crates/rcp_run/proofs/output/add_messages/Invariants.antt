@@ -1,6 +1,6 @@
 -- The messages so far were added.
 use Rattle.std.proofs.Common.{◌≡◌, ◌++◌}
-use Rattle.feed_meaning.specs.Platform.{messages_to}
+use Rattle.feed_meaning.specs.OutRecords.{messages_to}
 use Rattle.rcp_run.specs.State.{AreFramed, octets_in}
 use Rattle.rcp_run.proofs.output.add_messages.Given as goal
 

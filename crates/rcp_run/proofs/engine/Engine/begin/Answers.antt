@@ -2,7 +2,8 @@ use Rattle.std.proofs.Common.{◌≡◌, None, sym, ap, subst, refl}
 use Rattle.std.specs.List.{AllByRecursion}
 use Rattle.rcp_model.specs.Sessions.{Answer, begun}
 use Rattle.rcp_model.specs.Telling.{AreOctets, IsTold}
-use Rattle.feed_meaning.specs.Platform.{turn, domain_of}
+use Rattle.feed_meaning.specs.SessionTurns.{turn}
+use Rattle.feed_meaning.specs.Platform.{domain_of}
 use Rattle.session_core.specs.Shown.{doing_of}
 use Rattle.rcp_run.specs.declared.engine.Connection.{Connection}
 use Rattle.rcp_run.specs.declared.engine.Engine.{Engine}
@@ -19,7 +20,7 @@ returns-clause-platform c =
     let t = turn c.args.number (None) (begun c.args.self.now.roster c.args.self.now.moment) in
     let new : Engine = record e { connections = c.push.new.self; server = c.carry_out.new.server } in
     begun_one p (platform_in new) t e.connections.items c.push.new.self.items (record { number = c.args.number; session = c.in_ok-session.session }) refl c.requires.new c.in_ok-push.ensures.items refl
-    (ap (λ (a : Answer). a.after) (sym did)) (begun-still e.roster e.moment) refl refl refl refl
+    (ap (λ (a : Answer). a.after) (sym did)) (begun-still e.roster e.moment) refl refl refl refl refl refl
     (served (domain_of e.roster) t (None) (doing_of c.in_ok-session.actions) (server_in e.roster.links e.server) (server_in e.roster.links c.carry_out.new.server) refl (ap (λ (a : Answer). a.does) (sym did))
     (c.in_ok-carry_out.ensures.server (domain_of e.roster) e.roster.links))
 

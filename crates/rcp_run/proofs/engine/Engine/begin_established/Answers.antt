@@ -2,7 +2,8 @@ use Rattle.std.proofs.Common.{◌≡◌, Some, List, sym, ap, subst, ◌∙◌, 
 use Rattle.std.specs.List.{AllByRecursion}
 use Rattle.rcp_model.specs.Sessions.{Answer, begun_established}
 use Rattle.rcp_model.specs.Telling.{AreOctets, IsTold}
-use Rattle.feed_meaning.specs.Platform.{Turn, turn, domain_of, is_free, after_turns}
+use Rattle.feed_meaning.specs.SessionTurns.{Turn, turn, is_free, after_turns}
+use Rattle.feed_meaning.specs.Platform.{domain_of}
 use Rattle.session_core.specs.Shown.{doing_of}
 use Rattle.rcp_run.specs.declared.engine.Connection.{Connection}
 use Rattle.rcp_run.specs.declared.engine.Engine.{Engine}
@@ -19,7 +20,7 @@ returns-clause-platform c =
     let t = turn c.args.number (Some c.in-Some.slot) (begun_established c.in-Some.slot) in
     let new : Engine = record e { connections = c.push.new.self; server = c.carry_out.new.server } in
     begun_one p (platform_in new) t e.connections.items c.push.new.self.items (record { number = c.args.number; session = c.in_ok-session.session }) refl c.requires.new c.in_ok-push.ensures.items refl
-    (ap (λ (a : Answer). a.after) (sym did)) (established-still c.in-Some.slot) refl refl refl refl
+    (ap (λ (a : Answer). a.after) (sym did)) (established-still c.in-Some.slot) refl refl refl refl refl refl
     (served (domain_of e.roster) t (Some c.in-Some.slot) (doing_of c.in_ok-session.actions) (server_in e.roster.links e.server) (server_in e.roster.links c.carry_out.new.server) refl (ap (λ (a : Answer). a.does) (sym did))
     (c.in_ok-carry_out.ensures.server (domain_of e.roster) e.roster.links))
     ∙ ap (λ (ts : List Turn). after_turns ts p) (ready-free p c.args.number c.in-Some.slot _ c.in-Some.ensures.slot (ap (λ (l : List Connection). is_free (connections_in l) c.in-Some.slot) (sym c.deref.ensures.value) ∙ sym c.is_free.ensures ∙ c.if-not-is_free.false))

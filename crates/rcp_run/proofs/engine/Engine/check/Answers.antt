@@ -2,7 +2,7 @@ use Rattle.std.proofs.Common.{Option, Some, None, ℕ, ap, sym, ◌∙◌, cond,
 use Rattle.std.specs.Prelude.{is_some}
 use Rattle.rcp_base.specs.Feed.{FeedRecord}
 use Rattle.rcp_base.specs.declared.kinds.FeedWhy.TheVariants as why
-use Rattle.feed_meaning.specs.Platform.{slot_named}
+use Rattle.feed_meaning.specs.SessionTurns.{slot_named}
 use Rattle.rcp_run.proofs.RecordLemmas.{unread-ready, unread-links, unread-slice, read-other}
 use Rattle.rcp_run.proofs.engine.Engine.check.Goals as goal
 

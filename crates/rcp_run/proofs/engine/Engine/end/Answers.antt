@@ -2,7 +2,8 @@ use Rattle.std.proofs.Common.{map, sym, ap, subst, ◌∙◌, refl}
 use Rattle.std.specs.List.{flat_map, AllByRecursion}
 use Rattle.rcp_model.specs.Sessions.{End}
 use Rattle.rcp_model.specs.Telling.{IsTold}
-use Rattle.feed_meaning.specs.Platform.{Connections, connection_at, domain_of, simple_turn, turn_output, after_turns}
+use Rattle.feed_meaning.specs.Platform.{Connections, domain_of}
+use Rattle.feed_meaning.specs.SessionTurns.{connection_at, simple_turn, turn_output, after_turns}
 use Rattle.session_core.specs.Shown.{doing_of}
 use Rattle.rcp_run.specs.declared.engine.Engine.{Engine}
 use Rattle.rcp_run.specs.State.{connection_in, server_in, platform_in}
@@ -40,7 +41,7 @@ returns-clause-platform c =
     let f = here c in
     let t = simple_turn p.roster End (connection_in f.connection) in
     let new : Engine = record e { connections = c.settle.new.connections; server = c.carry_out.new.server } in
-    after_found p (platform_in new) e.roster.as_number (map (simple_turn p.roster End) (connection_at p.connections c.args.number)) t c.settle.new.connections.items (ap (map (simple_turn p.roster End)) f.at) (done c) refl refl refl refl
+    after_found p (platform_in new) e.roster.as_number (map (simple_turn p.roster End) (connection_at p.connections c.args.number)) t c.settle.new.connections.items (ap (map (simple_turn p.roster End)) f.at) (done c) refl refl refl refl refl refl
     (served (domain_of e.roster) t c.end_session-seat.result.0 (doing_of c.end_session-seat.result.1) (server_in e.roster.links e.server) (server_in e.roster.links c.carry_out.new.server) (took c).held (took c).does
     (c.in_ok-carry_out.ensures.server (domain_of e.roster) e.roster.links))
 

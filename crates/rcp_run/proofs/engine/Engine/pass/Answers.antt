@@ -1,7 +1,8 @@
 use Rattle.std.proofs.Common.{ℕ, List, not, sym, ap, subst, ◌∙◌, refl}
 use Rattle.std.specs.List.{AllByRecursion}
 use Rattle.rcp_model.specs.Sessions.{is_closed}
-use Rattle.feed_meaning.specs.Platform.{domain_of, after_turns}
+use Rattle.feed_meaning.specs.Platform.{domain_of}
+use Rattle.feed_meaning.specs.SessionTurns.{after_turns}
 use Rattle.rcp_run.specs.declared.engine.Connection.{Connection}
 use Rattle.rcp_run.specs.declared.engine.Engine.{Engine}
 use Rattle.rcp_run.specs.State.{connections_in, numbers_of, AreNumbered, IsWhole, platform_in}
@@ -16,7 +17,7 @@ returns-clause-platform c =
     let e = c.args.self.now in
     let p = platform_in e in
     let new : Engine = record e { connections = c.keep_open.new.connections; server = c.tick_all.new.server; moment = c.moment_of-self.result } in
-    time_passed p (platform_in new) c.moment_of-self.result c.tick_all.new.connections.items c.keep_open.new.connections.items c.requires.sound.numbered refl refl refl
+    time_passed p (platform_in new) c.moment_of-self.result c.tick_all.new.connections.items c.keep_open.new.connections.items c.requires.sound.numbered refl refl refl refl refl
     (c.in_ok-tick_all.ensures.connections e.roster) c.keep_open.ensures refl (c.in_ok-tick_all.ensures.server e.roster (domain_of e.roster) e.roster.links)
     ∙ ap (λ (n : ℕ). after_turns (time_turns p n) (record p { moment = n })) c.moment_of-self.ensures
 

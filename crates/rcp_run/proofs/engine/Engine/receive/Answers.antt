@@ -1,7 +1,8 @@
 use Rattle.std.proofs.Common.{map, sym, ap, subst, ◌∙◌, refl}
 use Rattle.std.specs.List.{flat_map, AllByRecursion}
 use Rattle.rcp_model.specs.Telling.{IsTold}
-use Rattle.feed_meaning.specs.Platform.{Connections, connection_at, domain_of, octets_turn, turn_output, after_turns}
+use Rattle.feed_meaning.specs.Platform.{Connections, domain_of}
+use Rattle.feed_meaning.specs.SessionTurns.{connection_at, octets_turn, turn_output, after_turns}
 use Rattle.session_core.specs.Shown.{doing_of}
 use Rattle.rcp_run.specs.declared.engine.Engine.{Engine}
 use Rattle.rcp_run.specs.State.{connection_in, server_in, platform_in}
@@ -39,7 +40,7 @@ returns-clause-platform c =
     let f = here c in
     let t = octets_turn p c.args.octets.now (connection_in f.connection) in
     let new : Engine = record e { connections = c.settle.new.connections; server = c.carry_out.new.server } in
-    after_found p (platform_in new) e.roster.as_number (map (octets_turn p c.args.octets.now) (connection_at p.connections c.args.number)) t c.settle.new.connections.items (ap (map (octets_turn p c.args.octets.now)) f.at) (done c) refl refl refl refl
+    after_found p (platform_in new) e.roster.as_number (map (octets_turn p c.args.octets.now) (connection_at p.connections c.args.number)) t c.settle.new.connections.items (ap (map (octets_turn p c.args.octets.now)) f.at) (done c) refl refl refl refl refl refl
     (served (domain_of e.roster) t c.in_ok-seat.seat (doing_of c.in_ok-seat.actions) (server_in e.roster.links e.server) (server_in e.roster.links c.carry_out.new.server) (took c).held (took c).does
     (c.in_ok-carry_out.ensures.server (domain_of e.roster) e.roster.links))
 

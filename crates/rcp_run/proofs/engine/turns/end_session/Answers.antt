@@ -1,6 +1,6 @@
 use Rattle.std.proofs.Common.{◌≡◌, set, subst, refl}
 use Rattle.rcp_model.specs.Sessions.{End}
-use Rattle.feed_meaning.specs.Platform.{simple_turn}
+use Rattle.feed_meaning.specs.SessionTurns.{simple_turn}
 use Rattle.rcp_run.specs.declared.engine.Connection.{Connection}
 use Rattle.rcp_run.specs.State.{IsWhole, connection_in}
 use Rattle.rcp_run.specs.Turns.{TookTurn}

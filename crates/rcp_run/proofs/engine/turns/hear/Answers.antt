@@ -1,7 +1,7 @@
 use Rattle.std.proofs.Common.{◌≡◌, ◌+◌, ◌&&◌, not, take, drop, Option, List, ℕ, set, sym, ap, subst, ◌∙◌, refl}
 use Rattle.rcp_model.specs.Rosters.{RosterOf}
 use Rattle.rcp_model.specs.Sessions.{Octets, Seat, answer, seat_of}
-use Rattle.feed_meaning.specs.Platform.{octets_turn, is_slot, is_free}
+use Rattle.feed_meaning.specs.SessionTurns.{octets_turn, is_slot, is_free}
 use Rattle.session_core.specs.Held.{Answers}
 use Rattle.rcp_run.specs.declared.engine.Connection.{Connection}
 use Rattle.rcp_run.specs.State.{IsWhole, connection_in, connections_in}

@@ -1,6 +1,6 @@
 use Rattle.std.proofs.Common.{Option, option_map, sym, ap, ◌∙◌}
 use Rattle.rcp_model.specs.RouteServer.{Down, after_all}
-use Rattle.feed_meaning.specs.Platform.{end_events}
+use Rattle.feed_meaning.specs.SessionTurns.{end_events}
 use Rattle.session_core.specs.declared.actions.Closed.{Closed}
 use Rattle.session_core.specs.Shown.{ending_of}
 use Rattle.rcp_run.specs.State.{server_in}

@@ -1,6 +1,6 @@
 use Rattle.std.proofs.Common.{ℕ, Option, sym, ap, ◌∙◌}
 use Rattle.rcp_model.specs.RouteServer.{after_all}
-use Rattle.feed_meaning.specs.Platform.{seat_events}
+use Rattle.feed_meaning.specs.SessionTurns.{seat_events}
 use Rattle.rcp_run.specs.State.{server_in}
 use Rattle.rcp_run.proofs.EventLemmas.{after_none, after_both, told-map}
 use Rattle.rcp_run.proofs.RecordLemmas.{on_ok}

@@ -2,7 +2,7 @@ use Rattle.std.proofs.Common.{◌<◌, ◌≤◌, ℕ, [], length, ap, refl, ari
 use Rattle.rcp_model.specs.Rosters.{RosterOf}
 use Rattle.rcp_model.specs.Sessions.{Moment}
 use Rattle.rcp_model.specs.RouteServer.{Domain}
-use Rattle.feed_meaning.specs.Platform.{simple_turn}
+use Rattle.feed_meaning.specs.SessionTurns.{simple_turn}
 use Rattle.rcp_run.specs.declared.engine.Connection.{Connection}
 use Rattle.rcp_run.specs.State.{IsWhole, connection_in, connections_in, server_in}
 use Rattle.rcp_run.proofs.ConnectionLemmas.{all_at, all_set}

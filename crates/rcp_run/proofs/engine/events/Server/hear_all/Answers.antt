@@ -5,7 +5,7 @@ use Rattle.std.proofs.lemmas.Iterator.Adapters.{YieldsList-from_vec}
 use Rattle.std.proofs.lemmas.Iterator.Consumers.{YieldsList-end}
 use Rattle.rcp_model.specs.RouteServer.{after_all}
 use Rattle.rcp_model.specs.Telling.{IsTold}
-use Rattle.feed_meaning.specs.Platform.{server_event}
+use Rattle.feed_meaning.specs.SessionTurns.{server_event}
 use Rattle.session_core.specs.declared.actions.SessionEvent.{SessionEvent}
 use Rattle.session_core.specs.Shown.{event_of}
 use Rattle.rcp_run.specs.State.{server_in}

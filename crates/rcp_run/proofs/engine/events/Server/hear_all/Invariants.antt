@@ -4,7 +4,7 @@ use Rattle.std.specs.List.{AllByRecursion}
 use Rattle.rcp_model.specs.declared.event.Edge.{Edge}
 use Rattle.rcp_model.specs.RouteServer.{Domain, after_all}
 use Rattle.rcp_model.specs.Telling.{IsTold}
-use Rattle.feed_meaning.specs.Platform.{server_event}
+use Rattle.feed_meaning.specs.SessionTurns.{server_event}
 use Rattle.session_core.specs.Shown.{event_of}
 use Rattle.rcp_run.specs.State.{server_in, IsServer}
 use Rattle.rcp_run.proofs.engine.events.Server.hear_all.Given as goal

@@ -6,8 +6,9 @@ use Rattle.rcp_model.specs.RouteServer.{announced_prefixes, of_slot}
 use Rattle.rcp_run.specs.declared.announcements.Announcement.{Announcement}
 use Rattle.rcp_run.specs.declared.engine.events.Router.{Router}
 use Rattle.rcp_run.specs.declared.engine.events.Server.{Server}
-use Rattle.rcp_run.specs.State.{announcements_in, tables_in, server_in, IsKept, IsRising}
-use Rattle.rcp_run.proofs.RisingLemmas.{rising-include_all}
+use Rattle.rcp_model.specs.Rising.{IsRising}
+use Rattle.rcp_run.specs.State.{announcements_in, tables_in, server_in, IsKept}
+use Rattle.rcp_model.proofs.RisingLemmas.{rising-include_all}
 use Rattle.rcp_run.proofs.EventLemmas.{lowered, kept_left}
 use Rattle.rcp_run.proofs.engine.events.Server.lower.Goals as goal
 

@@ -5,8 +5,9 @@ use Rattle.rcp_model.specs.RouteServer.{announced_prefixes}
 use Rattle.rcp_run.specs.declared.announcements.Announcement.{Announcement}
 use Rattle.rcp_run.specs.declared.table.Cell.{Cell}
 use Rattle.rcp_run.specs.declared.engine.events.Server.{Server}
-use Rattle.rcp_run.specs.State.{announcements_in, table_in, tables_in, server_in, IsRising}
-use Rattle.rcp_run.proofs.RisingLemmas.{rising-include_all}
+use Rattle.rcp_model.specs.Rising.{IsRising}
+use Rattle.rcp_run.specs.State.{announcements_in, table_in, tables_in, server_in}
+use Rattle.rcp_model.proofs.RisingLemmas.{rising-include_all}
 use Rattle.rcp_run.proofs.EventLemmas.{raised}
 use Rattle.rcp_run.proofs.RecordLemmas.{on_ok}
 use Rattle.rcp_run.proofs.engine.events.Server.raise.Goals as goal

@@ -1,8 +1,9 @@
 use Rattle.std.proofs.Common.{refl, sym, subst, ◌∙◌}
 use Rattle.std.specs.Prelude.{None}
 use Rattle.rcp_run.specs.declared.engine.events.Server.{Server}
-use Rattle.rcp_run.specs.State.{server_in, IsRising}
-use Rattle.rcp_run.proofs.RisingLemmas.{rising-include}
+use Rattle.rcp_model.specs.Rising.{IsRising}
+use Rattle.rcp_run.specs.State.{server_in}
+use Rattle.rcp_model.proofs.RisingLemmas.{rising-include}
 use Rattle.rcp_run.proofs.EventLemmas.{changed_server, kept_server, unheard}
 use Rattle.rcp_run.proofs.engine.events.Server.withdraw.Goals as goal
 

@@ -1,8 +1,0 @@
-use Rattle.std.proofs.Common.{refl}
-use Rattle.rcp_base.specs.Feed.{kind_of, fault_in_front, front, feed_within}
-use Rattle.feed_meaning.specs.WholeFeeds.{unread_fault, feed_meaning}
-use Rattle.meaning_cases.proofs.feeds.link_state_is_a_fault_of_its_record.Goals as goal
-
-pub returns : goal.returns
-unfolding kind_of fault_in_front front feed_within unread_fault feed_meaning
-returns c = refl
