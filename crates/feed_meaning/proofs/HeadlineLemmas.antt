@@ -58,7 +58,7 @@ kept-run platform outs last (item ∷ items) small rises h =
 kept-fresh : (roster : RosterOf) → Kept (fresh roster) [] 0
 kept-fresh roster = record {
   settled = record {
-    offers = λ slot table p is untouched. absurd (none_some is);
+    offers = λ slot table p is not_pending. absurd (none_some is);
     canonical = record { each = λ slot p octets is. absurd (none_some is) };
     pending = tt;
     announced = tt;
@@ -107,7 +107,7 @@ run-roster platform [] = refl
 run-roster platform (item ∷ items) = run-roster (act platform item).after items ∙ act-roster platform item
 
 headline-holds : (roster : RosterOf) (items : List FeedRecord) → AllByRecursion HasOctets items → NumbersRise 0 items → Headline roster items
-headline-holds roster items small rises number slot p on untouched =
+headline-holds roster items small rises number slot p on not_pending =
     by_session (get_at same_number number platform.connections) refl on where
       platform : Platform
       platform = platform_after (fresh roster) items
@@ -120,7 +120,7 @@ headline-holds roster items small rises number slot p on untouched =
           → get_at same_prefix p (replay (sent_to number (all_output (fresh roster) items))) ≡ offer (domain_of roster) (announced_at platform.server.announcements p) platform.server.edges slot
       by_table tells =
           Replays-replay (sent_to number (all_output (fresh roster) items)) tells.0 p tells.2
-          ∙ kept.settled.offers slot tells.0 p tells.1 untouched
+          ∙ kept.settled.offers slot tells.0 p tells.1 not_pending
           ∙ ap (λ (r : RosterOf). offer (domain_of r) (announced_at platform.server.announcements p) platform.server.edges slot) (run-roster (fresh roster) items)
 
       by_session : (found : Option SessionState) → get_at same_number number platform.connections ≡ found → slot_of_session found ≡ Some slot

@@ -138,9 +138,9 @@ passed-among (entry ∷ a) test e p octets is passed =
 pub settled-links : (domain : Domain) (edges : List Edge) (server : Server) → Settled domain server → Settled domain (after domain (Links edges) server)
 unfolding after
 settled-links domain edges server h = record {
-  offers = λ slot table p is untouched.
+  offers = λ slot table p is not_pending.
       let quiet : (is_among (announced_prefixes (moved domain server.edges edges server.announcements)) p || is_among server.pending p) ≡ false
-      = sym (is_among-include_all (announced_prefixes (moved domain server.edges edges server.announcements)) server.pending p) ∙ untouched in
+      = sym (is_among-include_all (announced_prefixes (moved domain server.edges edges server.announcements)) server.pending p) ∙ not_pending in
       let parts = or_parts _ _ quiet in
       h.offers slot table p is parts.1
       ∙ offer-costs domain (announced_at server.announcements p) server.edges edges slot
