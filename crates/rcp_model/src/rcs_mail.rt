@@ -8,7 +8,10 @@ use std::sync::Arc;
 #[derive(Drop)]
 pub enum ShardMail<V> {
     /// The slot's session is up. `generation` counts the times that its seat was claimed.
-    Up { slot: Slot, generation: u64 },
+    Up {
+        slot: Slot,
+        generation: u64,
+    },
     /// The slot's router announces a route for a prefix.
     Announce {
         slot: Slot,
@@ -16,9 +19,14 @@ pub enum ShardMail<V> {
         route: Route,
     },
     /// The slot's router withdraws its route for a prefix.
-    Withdraw { slot: Slot, prefix: Prefix },
+    Withdraw {
+        slot: Slot,
+        prefix: Prefix,
+    },
     /// The slot's session has ended.
-    Down { slot: Slot },
+    Down {
+        slot: Slot,
+    },
     /// The interior network has changed.
     View(Arc<V>),
 }
