@@ -7,3 +7,4 @@ pub mod FeedCases
 pub mod FaultCases
 pub mod LinkStateCases
 pub mod LinkStateFeeds
+pub mod PendingFeeds
