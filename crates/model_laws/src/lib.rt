@@ -1,0 +1,15 @@
+//! Laws of the model that pin it from further sides.
+//!
+//! Model: there is none. Each public function is a law of `rcp_model`'s definitions with an empty body. Nothing stands on this
+//! crate, so that a further law proves nothing anew but itself. A reader may rely on these:
+//!
+//! - `ends`: with which NOTIFICATION a BGP session ends, and that no other is sent;
+//! - `forms`: which path attributes are sent on, and with which flags, those of unrecognised types among them.
+//!
+//! ```text
+//! ensures { (roster : RosterOf) (input : Input) (session : SessionState) → IsEndTold (answer roster input session).does }
+//! ```
+#![tactic(auto)]
+
+pub mod ends;
+pub mod forms;
