@@ -6,16 +6,16 @@ use Rattle.std.specs.List.{list_any}
 use Rattle.std.specs.List.Sorted.{IsStrictlySortedBy}
 use Rattle.std.specs.Map.{keys_of, lookup}
 use Rattle.std.specs.Option.{option_map}
-use Rattle.std.specs.Ordering.{is_eq, is_le, eq_by_cmp, ordering_reverse}
+use Rattle.std.specs.Ordering.{is_le, eq_by_cmp, ordering_reverse}
 use Rattle.std.specs.Cmp.{eq_by_cmp_equiv}
 use Rattle.std.specs.declared.cmp.Ordering.{Ordering}
 use Rattle.std.specs.declared.cmp.Ordering.TheVariants.{Less, Equal, Greater}
-use Rattle.std.proofs.lemmas.Bool.{false≢true, and_parts, and_right}
+use Rattle.std.proofs.lemmas.Bool.{false≢true, and_parts}
 use Rattle.rcp_base.specs.IpPrefix.{IpPrefix, prefix_cmp}
 use Rattle.rcp_model.specs.Assigned.{IsLeast}
 use Rattle.rcp_model.proofs.RibLemmas.{prefix_total, prefix_exact}
 use Rattle.pending_marks.specs.Marks.{MarksOf, no_marks, Flags, Flag, flag_of, flags_from, first_in, opened_in, marked_in, is_opened, is_marked, IsBelowAll, AreMarks}
-use Rattle.pending_marks.proofs.FirstLemmas.{tied_same, tied_self, less_back, flag_in, IsFirst, first_is}
+use Rattle.pending_marks.proofs.FirstLemmas.{tied_same, IsFirst, first_is}
 
 -- ---- what is opened and marked
 

@@ -1,5 +1,5 @@
 -- The prefixes that are opened, and those of them that are marked, as a map keeps them.
-use Rattle.std.specs.Prelude.{◌≡◌, ℕ, Bool, true, false, List, Option, Some, None, unwrap_or, option_map, find, MatchOption, refl}
+use Rattle.std.specs.Prelude.{◌≡◌, ℕ, Bool, true, false, List, Option, unwrap_or, option_map, find, MatchOption, refl}
 use Rattle.std.specs.BTreeMap as tree
 use Rattle.std.specs.BTreeMap.{BTreeMap, IsOrdered}
 use Rattle.std.specs.Coded.{Coded, code_by, coded×}

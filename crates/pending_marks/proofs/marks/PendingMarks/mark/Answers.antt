@@ -1,4 +1,4 @@
-use Rattle.std.proofs.Common.{◌≡◌, ℕ, ◌<◌, ◌^◌, sym, ap, subst, ◌∙◌, arith, rules}
+use Rattle.std.proofs.Common.{sym, ap, ◌∙◌, arith}
 use Rattle.std.specs.FinSet as set_of
 use Rattle.pending_marks.specs.Marks.{MarksOf, is_opened, is_marked}
 use Rattle.pending_marks.proofs.MarkLemmas.{opened_is, marked_is, marked_again, room_for, marks, are_marked}

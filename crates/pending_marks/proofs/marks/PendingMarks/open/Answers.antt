@@ -1,4 +1,4 @@
-use Rattle.std.proofs.Common.{◌≡◌, sym, ap, subst, ◌∙◌}
+use Rattle.std.proofs.Common.{sym, ap, ◌∙◌}
 use Rattle.std.specs.FinSet as set_of
 use Rattle.pending_marks.specs.Marks.{MarksOf, is_opened}
 use Rattle.pending_marks.proofs.MarkLemmas.{opened_is, opened_again, none_from, opens, are_opened}

@@ -1,4 +1,4 @@
-use Rattle.std.proofs.Common.{◌≡◌, true, ℕ, ◌≤◌, sym, ap, subst, ◌∙◌}
+use Rattle.std.proofs.Common.{ℕ, ◌≤◌, sym, ap, subst, ◌∙◌}
 use Rattle.std.specs.FinSet as set_of
 use Rattle.pending_marks.specs.Marks.{MarksOf, is_marked}
 use Rattle.pending_marks.proofs.MarkLemmas.{there_of_marked, one_marked, takes, are_taken}
