@@ -3,3 +3,4 @@ pub mod SlotLemmas
 pub mod WordLemmas
 pub mod RosterLemmas
 pub mod FormLemmas
+pub mod RoomLemmas

@@ -3,16 +3,17 @@ use Rattle.std.specs.Prelude.{◌≡◌, ℕ, List, Some, None, Result, Ok, Err}
 use Rattle.rcp_base.specs.declared.kinds.RosterWhy.TheVariants as why
 use Rattle.rcp_base.specs.Roster.{RosterOf as Written, Named, completed}
 use Rattle.rcp_model.specs.Rosters.{RosterOf, with_edges, roster_in}
+use Rattle.roster.specs.Room.{NamesSome}
 use Rattle.roster.specs.declared.refusal.Stop.{Stop}
 use Rattle.roster.specs.declared.refusal.Stop.TheVariants as stop
 use Rattle.roster.specs.declared.refusal.RosterRefusal.{RosterRefusal}
 use Rattle.roster.specs.declared.refusal.RosterRefusal.TheVariants as refusal
 
--- what is read of a text is its roster, or its first faulty line
+-- what is read of a text is its roster, or its first faulty line; memory may be short only where a line takes some
 abbrev pub Reads : List ℕ → Result RosterOf RosterRefusal → Type 0
 Reads text (Ok roster) = roster_in text ≡ Ok roster
 Reads text (Err (refusal.Fault line why)) = roster_in text ≡ Err (record { line = line; why = why })
-Reads text (Err refusal.NoMemory) = Unit {0}
+Reads text (Err refusal.NoMemory) = NamesSome text
 
 -- the roster of what is named, where no setting is missing at the line behind the last
 abbrev pub Completes : Named → ℕ → Result RosterOf RosterRefusal → Type 0

@@ -1,9 +1,11 @@
 //! What the lines before have named, and the judgement of the next one.
 
-ghost use Rattle.std.specs.Prelude.{◌≡◌, ◌==◌, Some, None, OnOk, IfSome, MatchOption};
+ghost use Rattle.std.specs.Prelude.{◌≡◌, ◌==◌, IsTrue, Some, None, Err, OnOk, OnErr, IfSome, MatchOption};
 ghost use Rattle.rcp_base.specs.Roster.{Router, Link, nothing_named, repeats, is_unknown, is_beyond, line_fault, with_line, with_any_text, is_skipped, completed};
 ghost use Rattle.roster.specs.Lines.{said_of};
-ghost use Rattle.roster.specs.Drafts.{Takes, TakesLine, settled, AreNamed};
+ghost use Rattle.roster.specs.Room.{takes_room};
+ghost use Rattle.roster.specs.Drafts.{Takes, TakesLine, IsShort, settled, AreNamed};
+ghost use Rattle.roster.specs.declared.refusal.Stop.TheVariants as stop;
 
 use crate::lines::{Line, read_line};
 use crate::members::{MOST_MEMBERS, Members};
@@ -55,7 +57,8 @@ impl Draft {
 
     /// Takes what a line says, or its first fault.
     pub fn take(&mut self, text: &[u8]) -> Result<(), Stop>
-        ensures { Takes (with_any_text self.old text.now) self.new result }
+        ensures takes { Takes (with_any_text self.old text.now) self.new result }
+        ensures no_memory { result ≡ Err stop.NoMemory → IsShort self.old text.now }
     {
         if is_skipped(text) {
             return Ok(());
@@ -67,7 +70,9 @@ impl Draft {
     }
 
     fn take_line(&mut self, line: &Line) -> Result<(), Stop>
-        ensures { TakesLine self.old (said_of line.now) self.new result }
+        ensures takes { TakesLine self.old (said_of line.now) self.new result }
+        ensures faultless { result ≡ Err stop.NoMemory → line_fault self.old (said_of line.now) ≡ None }
+        ensures room { result ≡ Err stop.NoMemory → IsTrue (takes_room (said_of line.now)) }
     {
         if let Some(why) = self.fault(line) {
             return Err(Stop::Fault(why));
@@ -155,7 +160,8 @@ impl Draft {
 
     fn add(&mut self, line: &Line) -> Result<(), NoMemory>
         requires { line_fault self.old (said_of line.now) ≡ None }
-        ensures { OnOk result (self.new ≡ with_line self.old (said_of line.now)) }
+        ensures ok { OnOk result (self.new ≡ with_line self.old (said_of line.now)) }
+        ensures room { OnErr result (IsTrue (takes_room (said_of line.now))) }
     {
         match line {
             Line::As(number) => self.as_number = Some(*number),

@@ -5,7 +5,8 @@
 //! the definitions: the settings, the list of the members, and the list of the links.
 //!
 //! A caller may rely on this: [`read`] gives exactly the roster of the text, and else exactly its first faulty line,
-//! with the first check that fails there. Each getter gives exactly that part of the roster. A look-up by router ID or
+//! with the first check that fails there. It takes memory only for the routers and the links, and answers `NoMemory` only
+//! at a faultless line of one. Each getter gives exactly that part of the roster. A look-up by router ID or
 //! BGP Identifier doesn't walk the list, and so a text is read in a time that grows with its length alone.
 //!
 //! ```text
@@ -25,7 +26,7 @@ mod words;
 
 pub use rcp_base::{Member, RosterWhy};
 pub use reading::read;
-pub use refusal::RosterRefusal;
+pub use refusal::{RosterRefusal, number_of_fault};
 pub use rosters::Roster;
 
 #[cfg(test)]

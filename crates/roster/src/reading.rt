@@ -12,6 +12,8 @@ use rcp_base::RosterWhy;
 use std::alloc::Global;
 
 /// The roster of a text, or its first faulty line.
+///
+/// `NoMemory` only where a line of the text names a router or a link, and no line up to it is faulty.
 pub fn read(alloc: Global, text: &[u8]) -> Result<Roster, RosterRefusal>
     requires { length text.now ≤ 65536 }
     ensures { Reads text.now result }

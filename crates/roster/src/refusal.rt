@@ -1,6 +1,8 @@
 //! Why a text is no roster.
 
+ghost use Rattle.std.specs.Prelude.{◌≡◌};
 ghost use Rattle.roster.specs.declared.refusal.Stop.TheVariants as stop;
+ghost use Rattle.roster.specs.Faults.{number_of_fault};
 
 use rcp_base::{NoMemory, RosterWhy};
 use thiserror::Error;
@@ -12,9 +14,16 @@ pub enum RosterRefusal {
     /// is a fault of the line behind the last.
     #[error("roster line {line}: {why}")]
     Fault { line: u32, why: RosterWhy },
-    /// No memory was found.
+    /// No memory was found for a router or a link.
     #[error("no memory")]
     NoMemory,
+}
+
+/// The number of a fault: 1 to 6, in the order of the variants.
+pub fn number_of_fault(why: RosterWhy) -> u8
+    ensures { result ≡ number_of_fault why }
+{
+    why as u8
 }
 
 /// Why a line isn't taken.

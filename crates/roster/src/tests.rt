@@ -304,11 +304,12 @@ fn there_are_512_routers_at_most(rt: HostRuntime) -> Result<(), Fail> {
 fn a_large_roster_is_read(rt: HostRuntime) -> Result<(), Fail> {
     let alloc = rt.alloc();
     let mut text = with_routers(alloc, 512)?;
-    for _ in 0..2000 {
+    for _ in 0..2200 {
         text.extend_from_slice(b"link 0.0.2.0 0.0.0.1 1\n")?;
     }
+    assert!(rt; text.len() > 60_000);
     let roster = roster_of(alloc, &text).map_err(|_| "a roster")?;
-    assert_eq!(rt; roster.links().len(), 4000);
+    assert_eq!(rt; roster.links().len(), 4400);
     Ok(())
 }
 
@@ -332,6 +333,7 @@ fn a_refusal_is_told_in_one_line(rt: HostRuntime) -> Result<(), Fail> {
         refusal.to_string(rt.alloc())?.as_str(),
         "roster line 2: too many"
     );
+    assert_eq!(rt; number_of_fault(RosterWhy::TooMany), 6);
     assert_eq!(rt;
         RosterRefusal::NoMemory.to_string(rt.alloc())?.as_str(),
         "no memory"
