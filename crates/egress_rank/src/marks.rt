@@ -1,6 +1,6 @@
 //! Marks on the slots that are tied.
 
-ghost use Rattle.std.specs.Prelude.{◌≡◌, ◌≢◌, ◌<◌, false, length, replicate, All, AllPairs, IfOk, MatchOption};
+ghost use Rattle.std.specs.Prelude.{◌≡◌, ◌≢◌, ◌<◌, true, false, length, replicate, slice_set, All, AllPairs, IfOk, MatchOption};
 ghost use Rattle.rcp_model.specs.Decision.{goes_before};
 ghost use Rattle.egress_rank.specs.Egresses.{IsMarked, AreTiedOf};
 ghost use Rattle.egress_rank.specs.Standings.{AreRanked, standing};
@@ -55,10 +55,9 @@ impl Marks {
         // There is room for each member, and so for the list.
         let _ = self.ranked.extend_from_slice(list);
         self.ranked.sort_unstable_by_key(standing);
-        for mark in &mut self.marks {
-            *mark = false;
-        }
-        mark_tied(self.marks.as_mut_slice(), self.ranked.as_slice());
+        let marks = self.marks.as_mut_slice();
+        unmark_all(marks);
+        mark_tied(marks, self.ranked.as_slice());
     }
 
     /// The marks, one for each member.
@@ -85,6 +84,23 @@ fn standing(candidate: &Candidate) -> Standing
     )
 }
 
+/// Marks the slot of a candidate.
+fn mark(marks: &mut [bool], candidate: &Candidate)
+    requires { candidate.now.slot < length marks.old }
+    ensures { marks.new ≡ slice_set marks.old candidate.now.slot true }
+{
+    marks[candidate.slot.0 as usize] = true;
+}
+
+/// Marks none.
+fn unmark_all(marks: &mut [bool])
+    ensures { marks.new ≡ replicate (length marks.old) false }
+{
+    for mark in marks {
+        *mark = false;
+    }
+}
+
 /// Marks the slots of the tied ones of a list that is sorted by standing. No other is marked before.
 ///
 /// The last one that was marked goes before a later one by the filters where any does.
@@ -99,7 +115,7 @@ fn mark_tied(marks: &mut [bool], ranked: &[Candidate])
         if is_beaten(&leader, candidate) {
             continue;
         }
-        marks[candidate.slot.0 as usize] = true;
+        mark(marks, candidate);
         leader = Some(*candidate);
     }
 }

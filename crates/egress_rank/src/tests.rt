@@ -40,7 +40,7 @@ fn the_tied_slots_alone_are_marked(rt: HostRuntime) -> Result<(), Fail> {
     let long = Candidate { hops: 2, ..plain };
     let rows = [
         ([plain, plain, plain], [true, true, false, true]),
-        ([low, long, plain], [false, false, false, true]),
+        ([low, long, plain], [false, true, false, false]),
         // a lower exit counts among the routes of one neighbouring AS alone
         (
             [route(65002, 50), route(65001, 20), plain],
