@@ -69,6 +69,10 @@ state_after now lsa state answer = record {
   ];
 }
 
+-- what is kept holds itself
+pub holds-itself : (routers : List (ℕ × Kept)) → IsKept routers → Holds (state_of routers) (state_of routers)
+holds-itself routers kept = record { same = λ router. refl; once = once-rising routers kept.rising }
+
 -- what becomes of an LSA is the same for each link state that is held
 pub same-installation : (now : ℕ) (lsa : RouterLsa) (routers : List (ℕ × Kept)) (state : LinkState) → IsKept routers → Holds (state_of routers) state → installation now lsa (state_of routers) ≡ installation now lsa state
 unfolding installation answer_to

@@ -122,7 +122,7 @@ module _ (routers : List (ℕ × Kept)) (links : List Edge) (kept : IsKept route
   least_told : (from to : ℕ) → least_between from to links ≡ metric routers from to
   least_told from to = least-same from to links (links_in routers) same_links ∙ least-kept from to routers (once-rising routers kept.rising)
 
-  told-found : (edge : Edge) → Contains (filter (is_two_way links) links) edge → IsTold routers edge
+  pub told-found : (edge : Edge) → Contains (filter (is_two_way links) links) edge → IsTold routers edge
   told-found edge member =
       let parts = and_parts (is_cost edge.cost (least_between edge.from edge.to links)) (is_some (least_between edge.to edge.from links)) (member_of_filter (is_two_way links) links edge member).1 in
       record {

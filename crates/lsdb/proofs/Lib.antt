@@ -6,4 +6,5 @@ pub mod LeastLinks
 pub mod Places
 pub mod Collecting
 pub mod Learned
+pub mod Limits
 pub mod ListedLinks

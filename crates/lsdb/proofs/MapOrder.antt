@@ -121,7 +121,7 @@ key_get k (entry ∷ entries) member = at_test (k == entry.0) (eq-eqb k entry.0)
   at_test false is (inl same) rest = absurd (false≢true (is (sym same)))
   at_test false is (inr later) rest = rest later
 
-get_key : (k : ℕ) (kept : Kept) (entries : List (ℕ × Kept)) → get_at same_number k entries ≡ Some kept → Contains (keys_of entries) k
+pub get_key : (k : ℕ) (kept : Kept) (entries : List (ℕ × Kept)) → get_at same_number k entries ≡ Some kept → Contains (keys_of entries) k
 get_key k kept [] found = absurd cc
 get_key k kept (entry ∷ entries) found = at_test (k == entry.0) (eqb-true k entry.0) (get_key k kept entries) found where
   at_test : (s : Bool) → (s ≡ true → k ≡ entry.0) → (get_at same_number k entries ≡ Some kept → Contains (keys_of entries) k) → cond s (Some entry.1) (get_at same_number k entries) ≡ Some kept

@@ -1,10 +1,11 @@
 -- Point-to-point links as edges of one direction, and the edges of both directions among them.
-use Rattle.std.specs.Prelude.{ℕ, Bool, false, ◌&&◌, ◌==◌, List, [], ◌∷◌, map, filter, AllPairs, Contains, ◌↔◌, ◌++◌, IsTrue, Option, Some, None, is_some, if◌then◌else◌}
+use Rattle.std.specs.Prelude.{ℕ, ◌≤◌, Bool, false, ◌&&◌, ◌==◌, List, [], ◌∷◌, map, filter, AllPairs, Contains, ◌↔◌, ◌++◌, IsTrue, Option, Some, None, is_some, if◌then◌else◌}
 use Rattle.std.specs.List.{flat_map}
 use Rattle.std.specs.List.Sorted.{IsSortedBy}
 use Rattle.rcp_model.specs.declared.event.Edge.{Edge}
 use Rattle.rcp_model.specs.LinkState.{RouterLink, Kept}
 use Rattle.rcp_model.specs.Edges.{POINT_TO_POINT, least, is_edge_before}
+use Rattle.rcp_model.specs.Graphs.{highest_cost}
 
 -- the point-to-point links of a router, each as an edge to the other one
 abbrev pub links_from : ℕ → List RouterLink → List Edge
@@ -38,6 +39,10 @@ IsInOrder edges = IsSortedBy is_edge_before edges
 -- each edge is before the later ones
 abbrev pub IsRising : List Edge → Type 0
 IsRising edges = AllPairs (λ a b. IsTrue (is_edge_before a b)) edges
+
+-- an edge of a cost of 16 bits
+abbrev pub IsCheap : Edge → Type 0
+IsCheap edge = edge.cost ≤ highest_cost
 
 -- the two-way ones of some links and further edges: in order, each once
 pub record AreEdges (links more edges : List Edge) : Type 0 where

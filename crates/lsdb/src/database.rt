@@ -1,8 +1,9 @@
-ghost use Rattle.std.specs.Prelude.{◌≡◌, ◌≢◌, ◌≤◌, ◌↔◌, IsTrue, Some, None, IfOk, OnErr, OnOk};
-ghost use Rattle.rcp_model.specs.LinkState.{LinkState, installation, installed, aged};
+ghost use Rattle.std.specs.Prelude.{◌≡◌, ◌≢◌, ◌≤◌, ◌+◌, ◌↔◌, length, All, IsTrue, Some, None, IfOk, OnErr, OnOk};
+ghost use Rattle.rcp_model.specs.LinkState.{LinkState, Newer, installation, installed, aged, most_routers};
 ghost use Rattle.rcp_model.specs.Edges.{edges_of};
+ghost use Rattle.rcp_model.specs.Graphs.{routers_in};
 ghost use Rattle.std.specs.List.Sorted.{IsPermutation};
-ghost use Rattle.lsdb.specs.Links.{links_in, IsInOrder};
+ghost use Rattle.lsdb.specs.Links.{links_in, IsInOrder, IsRising, IsCheap};
 ghost use Rattle.lsdb.specs.Answers.{installation_of};
 ghost use Rattle.lsdb.specs.Databases.{Changes, Holds, empty};
 
@@ -58,8 +59,8 @@ impl Lsdb {
     /// - `Dropped`: none is kept, the age is below MaxAge, and 2,048 other routers have one.
     /// - `Newer`: else. It is kept.
     ///
-    /// `NoMemory` where there is no room for it; the database is as before then. It takes time in the logarithm of the
-    /// number of routers.
+    /// `NoMemory` only where the answer would be `Newer` and there is no room for it; the database is as before then. It
+    /// takes time in the logarithm of the number of routers.
     pub fn install(&mut self, lsa: Lsa, now: u64) -> Result<Installed, NoMemory>
         requires { now ≡ self.old.moment }
         ensures answer { IfOk result (λ answer. (state : LinkState) → Holds self.old.state state →
@@ -68,6 +69,7 @@ impl Lsdb {
             Holds self.new.state (installed now lsa state)) }
         ensures moment { self.new.moment ≡ self.old.moment }
         ensures err { OnErr result (self.new ≡ self.old) }
+        ensures no_memory { OnErr result ((state : LinkState) → Holds self.old.state state → installation now lsa state ≡ Newer) }
     {
         let answer = judge(&self.routers, &lsa, now);
         match answer {
@@ -97,13 +99,26 @@ impl Lsdb {
         self.routers.len() < before
     }
 
+    /// The last time that `clock` was given, in seconds, or 0.
+    pub fn time(&self) -> u64
+        ensures time { result ≡ self.now.moment }
+        ensures kept { Holds self.now.state self.now.state }
+    {
+        self.moment
+    }
+
     /// The point-to-point links that both ends list, each from either end with the least metric of parallel ones there,
-    /// and the fixed edges besides (RFC 2328 section 16.1): by `from`, `to` and `cost`, each once.
+    /// and the fixed edges besides (RFC 2328 section 16.1): by `from`, `to` and `cost`, each once. They name at most
+    /// 2,048 routers beside those of the fixed edges, and cost at most 65,535 where the fixed ones do.
     ///
     /// `NoMemory` where there is no room for them. For E links and fixed edges in all it takes about E log E steps.
     pub fn edges(&self, fixed: &[Edge]) -> Result<Vec<Edge>, NoMemory>
-        ensures { IfOk result (λ edges. (state : LinkState) → Holds self.now.state state →
+        ensures edges { IfOk result (λ edges. (state : LinkState) → Holds self.now.state state →
             edges.items ≡ edges_of state fixed.now) }
+        ensures rising { IfOk result (λ edges. IsRising edges.items) }
+        ensures few { IfOk result (λ edges. length (routers_in edges.items) ≤ most_routers + length (routers_in fixed.now)) }
+        ensures cheap { IfOk result (λ edges. All IsCheap fixed.now → All IsCheap edges.items) }
+        ensures kept { Holds self.now.state self.now.state }
     {
         let links = links_in(self.alloc, &self.routers)?;
         edges_in(self.alloc, links.as_slice(), fixed)
@@ -131,6 +146,7 @@ fn remove(routers: &mut BTreeMap<RouterId, Instance>, router: RouterId)
 fn links_in(alloc: Global, routers: &BTreeMap<RouterId, Instance>) -> Result<Vec<Edge>, NoMemory>
     ensures order { IfOk result (λ links. IsInOrder links.items) }
     ensures links { IfOk result (λ links. IsPermutation (links_in routers.now.entries) links.items) }
+    ensures cheap { IfOk result (λ links. All IsCheap links.items) }
 {
     let mut links = Vec::new(alloc);
     for (router, instance) in routers {

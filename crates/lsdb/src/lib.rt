@@ -4,10 +4,13 @@
 //! An [`Lsdb`] means a link state, which is a map from routers to instances with the moments of their installation, and
 //! the last moment that it was told. A caller may rely on this:
 //!
-//! - `install` answers which of two instances is the more recent one exactly as section 13.1 says, and keeps it.
+//! - `install` answers which of two instances is the more recent one exactly as section 13.1 says, and keeps it. It
+//!   answers `NoMemory` only for one that is to be kept, and the database is then as before.
 //! - `clock` removes exactly the instances whose age has reached MaxAge.
 //! - `edges` gives exactly the point-to-point links that both ends list, each with the least metric of parallel ones, and
-//!   the fixed edges, in order, each once. `edges_are_two_way` says so of the links themselves.
+//!   the fixed edges, in order, each once. `edges_are_two_way` says so of the links themselves. They name few routers
+//!   and cost little, so that a graph takes them as they are.
+//! - A database holds its own link state: the clause `kept` of `time` and `edges`, which no caller has to ask for.
 //! - Databases that hold the same link state give the same answers and edges.
 //!
 //! ```text

@@ -1,7 +1,7 @@
 // The edges that instances tell of (RFC 2328 section 16.1).
-ghost use Rattle.std.specs.Prelude.{◌≡◌, ℕ, ◌++◌, filter, Contains, IfOk, OnOk};
+ghost use Rattle.std.specs.Prelude.{◌≡◌, ℕ, ◌++◌, filter, All, Contains, IfOk, OnOk};
 ghost use Rattle.rcp_model.specs.declared.event.Edge.{Edge};
-ghost use Rattle.lsdb.specs.Links.{links_from, least_between, is_two_way as two_way, IsInOrder, IsRising, AreEdges};
+ghost use Rattle.lsdb.specs.Links.{links_from, least_between, is_two_way as two_way, IsInOrder, IsRising, IsCheap, AreEdges};
 
 use lsa_reader::{LsaLink, POINT_TO_POINT};
 use rcp_base::{NoMemory, RouterId};
@@ -10,18 +10,27 @@ use std::alloc::Global;
 
 /// Puts the point-to-point links of a router behind the links that are there.
 pub fn add_links(edges: &mut Vec<Edge>, router: RouterId, links: &[LsaLink]) -> Result<(), NoMemory>
-    ensures { OnOk result (edges.new.items ≡ edges.old.items ++ links_from router links.now) }
+    ensures edges { OnOk result (edges.new.items ≡ edges.old.items ++ links_from router links.now) }
+    ensures cheap { OnOk result (All IsCheap edges.old.items → All IsCheap edges.new.items) }
 {
     for link in links {
         if link.kind == POINT_TO_POINT {
-            edges.push(Edge {
-                from: router,
-                to: RouterId(link.id),
-                cost: u32::from(link.metric),
-            })?;
+            edges.push(edge_along(router, link))?;
         }
     }
     Ok(())
+}
+
+/// A link of a router as an edge.
+fn edge_along(router: RouterId, link: &LsaLink) -> Edge
+    ensures edge { result ≡ record { from = router; to = link.now.id; cost = link.now.metric } }
+    ensures cheap { IsCheap result }
+{
+    Edge {
+        from: router,
+        to: RouterId(link.id),
+        cost: u32::from(link.metric),
+    }
 }
 
 /// The least cost of the links from one router to another.

@@ -121,7 +121,9 @@ fn a_kept_instance_ages(rt: HostRuntime) -> Result<(), Fail> {
     let alloc = rt.alloc();
     let mut lsdb = Lsdb::new(alloc);
     lsdb.install(lsa(alloc, 1, (0, 1, 5), &[])?, 0)?;
+    assert_eq!(rt; lsdb.time(), 0);
     lsdb.clock(901);
+    assert_eq!(rt; lsdb.time(), 901);
     let answer = lsdb.install(lsa(alloc, 1, (0, 1, 5), &[])?, 901)?;
     assert_eq!(rt; answer, Installed::Newer);
     // It counts from the newer one's moment now.

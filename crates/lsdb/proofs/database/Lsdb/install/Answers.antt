@@ -1,4 +1,4 @@
-use Rattle.std.proofs.Common.{◌⊎◌, inl, inr, ◌≡◌, refl, sym, ap, subst, ◌∙◌}
+use Rattle.std.proofs.Common.{◌⊎◌, inl, inr, ◌≡◌, Result, Ok, Err, OnErr, refl, sym, ap, subst, ◌∙◌}
 use Rattle.rcp_model.specs.LinkState.{RouterLsa, LinkState, installed}
 use Rattle.lsdb.specs.declared.recency.Installed.{Installed}
 use Rattle.lsdb.specs.declared.recency.Installed.TheVariants as installed_as
@@ -42,6 +42,7 @@ returns-in-Same c = record {
       (holds-still c.args.now c.args.lsa c.self.inside.routers.entries state c.self.invariant (held c.self.view_is holds) (installation_of c.judge-answer.result) (still c.judge-answer.result c.in-Same.is) c.judge-answer.ensures);
   moment = refl;
   err = tt;
+  no_memory = tt;
 } where
   held : {a b : Database} → {state : LinkState} → a ≡ b → Holds b.state state → Holds a.state state
   held {state} is holds = subst (λ (d : Database). Holds d.state state) (sym is) holds
@@ -50,3 +51,11 @@ returns-in-Same c = record {
   still told (inl is) = rw is tt
   still told (inr (inl is)) = rw is tt
   still told (inr (inr is)) = rw is tt
+
+pub returns-in_err-keep-in-Newer-clause-no_memory : goal.returns-in_err-keep-in-Newer-clause-no_memory
+returns-in_err-keep-in-Newer-clause-no_memory c = on_err c.from_residual.result _ (λ state holds.
+    sym (same-installation c.args.now c.args.lsa c.self.inside.routers.entries state c.self.invariant (subst (λ (d : Database). Holds d.state state) (sym c.self.view_is) holds))
+    ∙ sym (ap installation_of (sym c.in-Newer.is) ∙ c.judge-answer.ensures)) where
+      on_err : {T E : Type 0} (r : Result T E) (P : Type 0) → P → OnErr r P
+      on_err (Ok x) P p = tt
+      on_err (Err e) P p = p
