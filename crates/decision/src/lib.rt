@@ -33,6 +33,7 @@ mod steps;
 
 pub use candidate::Candidate;
 pub use choosing::{choose, in_tied};
+pub use steps::goes_before;
 
 #[cfg(test)]
 mod tests;

@@ -1,1 +1,3 @@
-pub mod EgressLemmas
+mod EgressLemmas
+mod MarkLemmas
+mod StandingLemmas

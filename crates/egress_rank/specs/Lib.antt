@@ -1,1 +1,2 @@
 pub mod Egresses
+pub mod Standings

@@ -8,16 +8,24 @@
 //!
 //! - `first_in` goes down the router's ranking to the first marked slot, and `nearest_in` compares the tied slots of a list. Both
 //!   answer the one egress, so they answer the same; for a few tied slots among many members `nearest_in` is the faster.
+//! - `Marks` marks exactly the slots that the filters leave of a list of candidates, in the order of a sort of that list.
 //! - Where the tied slots are those of a list of candidates, that egress is the decision's choice.
-//! - None of the calls takes memory.
+//! - `Marks::new` alone takes memory.
 //!
 //! ```text
-//! let chosen = nearest_in(&view, slot, &tied);
+//! let mut marks = Marks::new(alloc, members)?;
+//! marks.set(&candidates);
+//! let chosen = first_in(&view, slot, marks.as_slice());
 //! ```
 #![tactic(auto)]
 
 mod egress;
 mod laws;
+mod marks;
 
 pub use egress::{first_in, nearest_in};
 pub use laws::{egress_is_the_choice, one_egress};
+pub use marks::Marks;
+
+#[cfg(test)]
+mod tests;
