@@ -7,10 +7,11 @@ use Rattle.std.proofs.lemmas.Bool.{or_parts}
 use Rattle.std.proofs.lemmas.List.{take-append-drop}
 use Rattle.std.proofs.lemmas.Option.{none-some}
 use Rattle.rcp_model.specs.Messages.{FaultOf, header_fault, message_size, IsMessage, IsRest, IsReading, messages_in, rest_of}
+use Rattle.rcp_model.specs.Sessions.{fault_in_front}
 use Rattle.rcp_model.proofs.ReadingLemmas.{header_fault-append, message_size-None, IsMessage-seen, IsRest-from, reading_is_one, messages_in-cons, messages_in-concat}
-use Rattle.bgp_msg.specs.Cutting.{waiting_fault, is_waiting, after_next, Feeds, Call, fed, turned, handed, refused, waited, Run, IsGiven, Reads, IsAtEnd, handed_messages, told_faults}
+use Rattle.bgp_msg.specs.Cutting.{is_waiting, after_next, Feeds, Call, fed, turned, handed, refused, waited, Run, IsGiven, Reads, IsAtEnd, handed_messages, told_faults}
 use Rattle.bgp_msg.proofs.Handing.{unchanged}
-use Rattle.bgp_msg.proofs.Holding.{compared, waiting_fault-short, waiting_fault-long}
+use Rattle.bgp_msg.proofs.Holding.{compared, fault_in_front-short, fault_in_front-long}
 
 -- ---- what stays
 
@@ -19,17 +20,17 @@ none-is_some None e = refl
 none-is_some (Some a) e = cc
 
 nothing_whole : (held : List ℕ) → is_waiting held ≡ false → message_size held ≡ None
-nothing_whole held e = none-is_some (message_size held) (or_parts (is_some (message_size held)) (is_some (waiting_fault held)) e).0
+nothing_whole held e = none-is_some (message_size held) (or_parts (is_some (message_size held)) (is_some (fault_in_front held)) e).0
 
 -- a fault that waits is that of a header
 pub record IsFaulty (held : List ℕ) (f : FaultOf) : Type 0 where
   pub long : 19 ≤ length held
   pub fault : header_fault held ≡ Some f
 
-IsFaulty-from : (held : List ℕ) (f : FaultOf) → waiting_fault held ≡ Some f → IsFaulty held f
+IsFaulty-from : (held : List ℕ) (f : FaultOf) → fault_in_front held ≡ Some f → IsFaulty held f
 IsFaulty-from held f e =
-    ⊎_elim (λ (short : length held < 19). absurd (none-some f (sym (waiting_fault-short held short) ∙ e)))
-    (λ (long : 19 ≤ length held). record { long = long; fault = sym (waiting_fault-long held long) ∙ e }) (compared 19 (length held))
+    ⊎_elim (λ (short : length held < 19). absurd (none-some f (sym (fault_in_front-short held short) ∙ e)))
+    (λ (long : 19 ≤ length held). record { long = long; fault = sym (fault_in_front-long held long) ∙ e }) (compared 19 (length held))
 
 module _ (held : List ℕ) (f : FaultOf) (faulty : IsFaulty held f) (more : List ℕ) where
   -- whatever follows it
@@ -39,8 +40,8 @@ module _ (held : List ℕ) (f : FaultOf) (faulty : IsFaulty held f) (more : List
   IsRest-faulty : IsRest (held ++ more)
   IsRest-faulty = inr (inl (λ none. none-some f (sym none ∙ still)))
 
-  waits_still : waiting_fault (held ++ more) ≡ Some f
-  waits_still = waiting_fault-long (held ++ more) (omega (arith, length-append held more, faulty.long)) ∙ still
+  waits_still : fault_in_front (held ++ more) ≡ Some f
+  waits_still = fault_in_front-long (held ++ more) (omega (arith, length-append held more, faulty.long)) ∙ still
 
 nothing_whole-faulty : (held : List ℕ) (f : FaultOf) → IsFaulty held f → message_size held ≡ None
 nothing_whole-faulty held f faulty = message_size-None held (inr (inl (λ none. none-some f (sym none ∙ faulty.fault))))
@@ -55,7 +56,7 @@ rest_of-rest octets rest =
 pub record Accounts (start : List ℕ) (pieces messages : List (List ℕ)) (faults : List FaultOf) (held : List ℕ) (left : List (List ℕ)) : Type 0 where
   pub octets : start ++ concat pieces ≡ concat messages ++ (held ++ concat left)
   pub each : AllByRecursion IsMessage messages
-  pub told : AllByRecursion (λ fault. waiting_fault (rest_of (start ++ concat pieces)) ≡ Some fault) faults
+  pub told : AllByRecursion (λ fault. fault_in_front (rest_of (start ++ concat pieces)) ≡ Some fault) faults
 
 -- the octets that are held and left are the same after a call
 again : (start middle : List ℕ) (pieces others messages : List (List ℕ)) (faults : List FaultOf) (held : List ℕ) (left : List (List ℕ))
@@ -63,7 +64,7 @@ again : (start middle : List ℕ) (pieces others messages : List (List ℕ)) (fa
 again start middle pieces others messages faults held left same a = record {
   octets = same ∙ a.octets;
   each = a.each;
-  told = subst (λ (octets : List ℕ). AllByRecursion (λ fault. waiting_fault (rest_of octets) ≡ Some fault) faults) (sym same) a.told;
+  told = subst (λ (octets : List ℕ). AllByRecursion (λ fault. fault_in_front (rest_of octets) ≡ Some fault) faults) (sym same) a.told;
 }
 
 fed_on : (start piece middle : List ℕ) (pieces others : List (List ℕ)) (count : ℕ) → Feeds start piece count middle → pieces ≡ piece ∷ others
@@ -96,7 +97,7 @@ handed_on start message middle pieces messages faults held left size is nothing 
           ∙ ap (λ (octets : List ℕ). message ++ octets) (sym later ∙ a.octets)
           ∙ sym (append_assoc message (concat messages) (held ++ concat left));
       each = (whole, a.each);
-      told = subst (λ (octets : List ℕ). AllByRecursion (λ fault. waiting_fault octets ≡ Some fault) faults) rest a.told;
+      told = subst (λ (octets : List ℕ). AllByRecursion (λ fault. fault_in_front octets ≡ Some fault) faults) rest a.told;
     }
 
 pub Accounts-run : (start : List ℕ) (pieces : List (List ℕ)) (calls : List Call) (held : List ℕ) (left : List (List ℕ))
@@ -125,7 +126,7 @@ Accounts-run start pieces (refused fault ∷ calls) held left run given =
     record {
       octets = a.octets;
       each = a.each;
-      told = (ap waiting_fault (rest_of-rest (start ++ concat pieces) (IsRest-faulty start fault faulty (concat pieces))) ∙ waits_still start fault faulty (concat pieces), a.told);
+      told = (ap fault_in_front (rest_of-rest (start ++ concat pieces) (IsRest-faulty start fault faulty (concat pieces))) ∙ waits_still start fault faulty (concat pieces), a.told);
     }
 Accounts-run start pieces (waited ∷ calls) held left run given =
     let same : run.0 ≡ start = run.1.1 ∙ sym (unchanged start (nothing_whole start run.1.0)) in
@@ -135,25 +136,25 @@ Accounts-run start pieces (waited ∷ calls) held left run given =
 
 pub record Comes (pieces : List (List ℕ)) (calls : List Call) (held : List ℕ) : Type 0 where
   pub messages : handed_messages calls ≡ messages_in (concat pieces)
-  pub fault : waiting_fault held ≡ waiting_fault (rest_of (concat pieces))
+  pub fault : fault_in_front held ≡ fault_in_front (rest_of (concat pieces))
 
 module _ (pieces : List (List ℕ)) (calls : List Call) (held : List ℕ) (left : List (List ℕ)) (reads : Reads pieces calls held left) where
   accounts : Accounts [] pieces (handed_messages calls) (told_faults calls) held left
   accounts = Accounts-run [] pieces calls held left reads.run reads.given
 
-  pub told_all : AllByRecursion (λ fault. waiting_fault (rest_of (concat pieces)) ≡ Some fault) (told_faults calls)
+  pub told_all : AllByRecursion (λ fault. fault_in_front (rest_of (concat pieces)) ≡ Some fault) (told_faults calls)
   told_all = accounts.told
 
   pub messages_so_far : messages_in (concat pieces) ≡ handed_messages calls ++ messages_in (held ++ concat left)
   messages_so_far = ap messages_in accounts.octets ∙ (messages_in-concat (handed_messages calls) (held ++ concat left) accounts.each).0
 
-  from_rest : IsRest (held ++ concat left) → waiting_fault held ≡ waiting_fault (held ++ concat left) → Comes pieces calls held
+  from_rest : IsRest (held ++ concat left) → fault_in_front held ≡ fault_in_front (held ++ concat left) → Comes pieces calls held
   from_rest rest same =
       let reading : IsReading (concat pieces) (handed_messages calls) (held ++ concat left) = record { whole = accounts.octets; each = accounts.each; partial = rest } in
       let one = reading_is_one (concat pieces) (handed_messages calls) (held ++ concat left) reading in
-      record { messages = one.0; fault = same ∙ ap waiting_fault one.1 }
+      record { messages = one.0; fault = same ∙ ap fault_in_front one.1 }
 
-  at_fault : (o : Option FaultOf) → waiting_fault held ≡ o → o ≢ None → Comes pieces calls held
+  at_fault : (o : Option FaultOf) → fault_in_front held ≡ o → o ≢ None → Comes pieces calls held
   at_fault None e some = absurd (some refl)
   at_fault (Some f) e some =
       let faulty = IsFaulty-from held f e in
@@ -162,18 +163,18 @@ module _ (pieces : List (List ℕ)) (calls : List Call) (held : List ℕ) (left 
   at_last : concat left ≡ [] → is_waiting held ≡ false → Comes pieces calls held
   at_last none waits_not =
       let all : held ++ concat left ≡ held = ap (λ (o : List ℕ). held ++ o) none ∙ append-nil held in
-      from_rest (subst IsRest (sym all) (IsRest-from held (nothing_whole held waits_not))) (ap waiting_fault (sym all))
+      from_rest (subst IsRest (sym all) (IsRest-from held (nothing_whole held waits_not))) (ap fault_in_front (sym all))
 
   pub comes : IsAtEnd held left → Comes pieces calls held
-  comes end = ⊎_elim (λ (some : waiting_fault held ≢ None). at_fault (waiting_fault held) refl some) (λ last. at_last last.0 last.1) end
+  comes end = ⊎_elim (λ (some : fault_in_front held ≢ None). at_fault (fault_in_front held) refl some) (λ last. at_last last.0 last.1) end
 
 pub same_for_both : (pieces left others left_others : List (List ℕ)) (calls calls_others : List Call) (held held_others : List ℕ)
     → concat pieces ≡ concat others → Reads pieces calls held left → IsAtEnd held left
     → Reads others calls_others held_others left_others → IsAtEnd held_others left_others
-    → (handed_messages calls ≡ handed_messages calls_others) × (waiting_fault held ≡ waiting_fault held_others)
+    → (handed_messages calls ≡ handed_messages calls_others) × (fault_in_front held ≡ fault_in_front held_others)
 same_for_both pieces left others left_others calls calls_others held held_others same reads end reads_others end_others =
     let one = comes pieces calls held left reads end in
     let other = comes others calls_others held_others left_others reads_others end_others in (
       one.messages ∙ ap messages_in same ∙ sym other.messages,
-      one.fault ∙ ap (λ (octets : List ℕ). waiting_fault (rest_of octets)) same ∙ sym other.fault,
+      one.fault ∙ ap (λ (octets : List ℕ). fault_in_front (rest_of octets)) same ∙ sym other.fault,
     )

@@ -3,8 +3,9 @@ use Rattle.std.proofs.Common.{◌≡◌, ℕ, ◌<◌, ◌≤◌, ◌⊎◌, inl
 use Rattle.std.proofs.lemmas.Bool.{lt-leb, false≢true}
 use Rattle.std.proofs.lemmas.Option.{none-some}
 use Rattle.rcp_model.specs.Messages.{FaultOf, header_fault, length_field, message_size}
+use Rattle.rcp_model.specs.Sessions.{fault_in_front}
 use Rattle.rcp_model.proofs.ReadingLemmas.{message_size-from, message_size-None}
-use Rattle.bgp_msg.specs.Cutting.{waiting_fault, is_waiting}
+use Rattle.bgp_msg.specs.Cutting.{is_waiting}
 
 -- two numbers one way or the other
 
@@ -18,33 +19,33 @@ compared a n = compared_as a n (leb a n) refl
 module _ (octets : List ℕ) where
   -- ---- the fault that waits
 
-  pub waiting_fault-short : length octets < 19 → waiting_fault octets ≡ None
-  waiting_fault-short short = let e : leb 19 (length octets) ≡ false = lt-leb 19 (length octets) short in rw e refl
+  pub fault_in_front-short : length octets < 19 → fault_in_front octets ≡ None
+  fault_in_front-short short = let e : leb 19 (length octets) ≡ false = lt-leb 19 (length octets) short in rw e refl
 
-  pub waiting_fault-long : 19 ≤ length octets → waiting_fault octets ≡ header_fault octets
-  waiting_fault-long long = let e : leb 19 (length octets) ≡ true = le-leb 19 (length octets) long in rw e refl
+  pub fault_in_front-long : 19 ≤ length octets → fault_in_front octets ≡ header_fault octets
+  fault_in_front-long long = let e : leb 19 (length octets) ≡ true = le-leb 19 (length octets) long in rw e refl
 
   -- ---- whether something waits
 
-  waits_not : message_size octets ≡ None → waiting_fault octets ≡ None → is_waiting octets ≡ false
+  pub waits_not : message_size octets ≡ None → fault_in_front octets ≡ None → is_waiting octets ≡ false
   waits_not size none = rw (size, none) refl
 
   -- less than a header
   pub is_waiting-short : length octets < 19 → is_waiting octets ≡ false
-  is_waiting-short short = waits_not (message_size-None octets (inl short)) (waiting_fault-short short)
+  is_waiting-short short = waits_not (message_size-None octets (inl short)) (fault_in_front-short short)
 
   module _ (long : 19 ≤ length octets) where
     -- a faulty header
     pub is_waiting-faulty : (f : FaultOf) → header_fault octets ≡ Some f → is_waiting octets ≡ true
     is_waiting-faulty f e =
         let size : message_size octets ≡ None = message_size-None octets (inr (inl (λ none. none-some f (sym none ∙ e)))) in
-        let waits : waiting_fault octets ≡ Some f = waiting_fault-long long ∙ e in
+        let waits : fault_in_front octets ≡ Some f = fault_in_front-long long ∙ e in
         rw (size, waits) refl
 
     module _ (faultless : header_fault octets ≡ None) where
       -- less than the message
       pub is_waiting-part : length octets < length_field octets → is_waiting octets ≡ false
-      is_waiting-part part = waits_not (message_size-None octets (inr (inr (faultless, part)))) (waiting_fault-long long ∙ faultless)
+      is_waiting-part part = waits_not (message_size-None octets (inr (inr (faultless, part)))) (fault_in_front-long long ∙ faultless)
 
       -- a whole message
       pub is_waiting-whole : length_field octets ≤ length octets → is_waiting octets ≡ true

@@ -6,6 +6,7 @@ pub mod Again
 pub mod HeaderFaults
 pub mod Holding
 pub mod Feeding
+pub mod InFront
 pub mod Handing
 pub mod Cuts
 pub mod Parameters

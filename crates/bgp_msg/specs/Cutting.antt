@@ -1,17 +1,19 @@
 -- What a cutter holds of a stream, what its calls do to it, and what a reader who gives it pieces of a stream is given.
-use Rattle.std.specs.Prelude.{◌≡◌, ◌≢◌, ℕ, ◌<◌, ◌≤◌, Bool, true, false, ◌||◌, ◌⊎◌, List, [], ◌∷◌, ◌++◌, length, take, drop, Option, Some, None, is_some, nat_le, if◌then◌else◌}
+use Rattle.std.specs.Prelude.{◌≡◌, ◌≢◌, ℕ, ◌+◌, ◌<◌, ◌≤◌, Bool, true, false, ◌||◌, ◌⊎◌, List, [], ◌∷◌, ◌++◌, length, take, drop, Some, None, is_some}
 use Rattle.std.specs.List.{concat}
-use Rattle.rcp_model.specs.Messages.{FaultOf, header_fault, length_field, message_size}
+use Rattle.rcp_model.specs.Messages.{FaultOf, header_fault, length_field, message_size, message_octets}
+use Rattle.rcp_model.specs.Sessions.{fault_in_front}
+
+-- a whole message of this type with this body stands in front
+pub record IsInFront (octets : List ℕ) (kind : ℕ) (body : List ℕ) : Type 0 where
+  pub size : message_size octets ≡ Some (19 + length body)
+  pub message : take (19 + length body) octets ≡ message_octets kind body
 
 -- ---- what is held: the octets that came and weren't handed out
 
--- the fault of the header in front, which is judged as soon as its 19 octets are there
-abbrev pub waiting_fault : List ℕ → Option FaultOf
-waiting_fault octets = if nat_le 19 (length octets) then header_fault octets else None
-
 -- a whole message or a faulty header stands in front
 abbrev pub is_waiting : List ℕ → Bool
-is_waiting octets = is_some (message_size octets) || is_some (waiting_fault octets)
+is_waiting octets = is_some (message_size octets) || is_some (fault_in_front octets)
 
 -- at most one message is held, or a header that no message has
 abbrev pub HoldsOne : List ℕ → Type 0
@@ -44,7 +46,7 @@ abbrev pub Leads : List ℕ → Call → List ℕ → Type 0
 Leads old (fed piece count) new = Feeds old piece count new
 Leads old turned new = new ≡ old
 Leads old (handed message) new = (message_size old ≡ Some (length message)) × (old ≡ message) × (new ≡ after_next old)
-Leads old (refused fault) new = (waiting_fault old ≡ Some fault) × (new ≡ after_next old)
+Leads old (refused fault) new = (fault_in_front old ≡ Some fault) × (new ≡ after_next old)
 Leads old waited new = (is_waiting old ≡ false) × (new ≡ after_next old)
 
 -- these calls, one after another
@@ -86,4 +88,4 @@ pub record Reads (pieces : List (List ℕ)) (calls : List Call) (held : List ℕ
 
 -- The reader is at the end: a faulty header waits, or no octet is left and nothing waits.
 abbrev pub IsAtEnd : List ℕ → List (List ℕ) → Type 0
-IsAtEnd held left = (waiting_fault held ≢ None) ⊎ ((concat left ≡ []) × (is_waiting held ≡ false))
+IsAtEnd held left = (fault_in_front held ≢ None) ⊎ ((concat left ≡ []) × (is_waiting held ≡ false))

@@ -3,24 +3,17 @@
 ghost use Rattle.std.specs.Prelude.{◌≡◌, ◌+◌, ◌-◌, ◌≤◌, ◌++◌, [], Some, false, length, take, min, IfOk, IfSome, MatchOption, MatchResult};
 ghost use Rattle.std.specs.Borrow.{sem};
 ghost use Rattle.rcp_model.specs.Messages.{message_size, message_octets};
-ghost use Rattle.path_attrs.specs.Refusals.{fault_in};
+ghost use Rattle.bgp_msg.specs.Faults.{fault_in};
 ghost use Rattle.bgp_fault.specs.Faults.{IsWithin};
-ghost use Rattle.bgp_msg.specs.Cutting.{is_waiting, waiting_fault};
+ghost use Rattle.rcp_model.specs.Sessions.{fault_in_front};
+ghost use Rattle.bgp_msg.specs.Cutting.{is_waiting};
 ghost use Rattle.bgp_msg.specs.HeaderFields.{IsLengthOf};
 
+use crate::framing::{Message, first_message};
 use crate::header::{HEADER_LEN, MOST_OCTETS, read_header};
 use crate::put::put;
 use bgp_fault::Fault;
 use std::marker::Model;
-
-/// A whole message.
-#[derive(Clone, Copy, Debug)]
-pub struct Message<'a> {
-    /// The type, of which there are constants: 1 to 4.
-    pub kind: u8,
-    /// The octets behind the header, as many as the type may have: at most 4,077.
-    pub body: &'a [u8],
-}
 
 /// Cuts a stream of octets into messages. It holds the octets that came and weren't handed out: at most one message.
 #[derive(Drop)]
@@ -81,29 +74,21 @@ impl Cutter {
             (λ found. MatchOption found
             (is_waiting self.old ≡ false)
             (λ m. (message_size self.old ≡ Some (length self.old)) × (self.old ≡ message_octets m.kind m.body.now)))
-            (λ fault. (waiting_fault self.old ≡ Some (fault_in [] fault)) × IsWithin [] fault.extra) }
+            (λ fault. (fault_in_front self.old ≡ Some (fault_in [] fault)) × IsWithin [] fault.extra) }
         ensures lengths { IfOk result (λ found. IfSome found (λ m. IsLengthOf m.kind (19 + length m.body.now))) }
         ensures* after { sem 𝓛 (EndsAs self.entry) }
     {
-        let (held, _) = self.buffer.split_at(self.len);
-        if held.len() < HEADER_LEN {
-            return Ok(None);
-        }
-        let header = match read_header(held) {
-            Ok(header) => header,
+        let len = self.len;
+        let (held, _) = self.buffer.split_at(len);
+        let kind = match first_message(held) {
+            Ok(Some(message)) => message.kind,
+            Ok(None) => return Ok(None),
             Err(fault) => return Err(fault),
         };
-        let len = self.len;
-        if len < usize::from(header.len) {
-            return Ok(None);
-        }
         self.len = 0;
         let (octets, _) = self.buffer.split_at(len);
         let (_, body) = octets.split_at(HEADER_LEN);
-        Ok(Some(Message {
-            kind: header.kind,
-            body,
-        }))
+        Ok(Some(Message { kind, body }))
     }
 }
 

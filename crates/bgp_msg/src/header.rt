@@ -2,9 +2,8 @@
 
 ghost use Rattle.std.specs.Prelude.{◌≡◌, ◌≤◌, [], Some, None, length, OnOk, IfOk, IfErr};
 ghost use Rattle.rcp_model.specs.Messages.{header_fault, has_marker, is_outside, least_length, greatest_length};
-ghost use Rattle.path_attrs.specs.Refusals.{fault_in};
 ghost use Rattle.bgp_fault.specs.Faults.{IsWithin};
-ghost use Rattle.bgp_msg.specs.Faults.{header_error};
+ghost use Rattle.bgp_msg.specs.Faults.{fault_in, header_error};
 ghost use Rattle.bgp_msg.specs.HeaderFields.{IsHeader, IsLengthOf};
 
 use bgp_fault::{

@@ -5,9 +5,10 @@
 //!
 //! A caller may rely on this:
 //!
+//! - `first_message` is the whole message in front of octets, or the fault of the header there, which is judged as soon
+//!   as its 19 octets are there. A stream is cut by it alone.
 //! - `Cutter` hands out the messages of the stream's one reading, however it was cut into pieces, and then the fault of
-//!   a header, which it repeats. A header is judged as soon as its 19 octets are there. Each octet is copied once, and no
-//!   memory is taken.
+//!   a header, which it repeats. Each octet is copied once, and no memory is taken.
 //! - `read_open` and `read_update` answer what the body says exactly where it is faultless, and else its first fault;
 //!   `read_update` looks at the section lengths alone, `check_prefixes` at a section of prefixes, which `next_prefix`
 //!   then walks. Path attributes are read by `path_attrs`.
@@ -30,6 +31,7 @@
 #![tactic(auto)]
 
 mod cutter;
+mod framing;
 mod header;
 mod keepalive;
 mod laws;
@@ -39,7 +41,8 @@ mod put;
 mod streams;
 mod update;
 
-pub use cutter::{Cutter, Message};
+pub use cutter::Cutter;
+pub use framing::{Message, first_message};
 pub use header::{
     HEADER_LEN, Header, KEEPALIVE, MARKER, MOST_OCTETS, NOTIFICATION, OPEN, UPDATE, read_header,
 };
@@ -48,7 +51,7 @@ pub use laws::{
     identifier_comes_before_parameters, written_keepalive_is_read_again,
     written_notification_is_read_again, written_open_is_read_again, written_update_is_read_again,
 };
-pub use notification::write_notification;
+pub use notification::{Notification, read_notification, write_notification};
 pub use open::{OpenBody, identifier_of, read_open, write_open};
 pub use streams::any_cut;
 pub use update::{Update, check_prefixes, next_prefix, read_update, write_update};

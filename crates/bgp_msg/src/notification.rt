@@ -1,8 +1,8 @@
 //! NOTIFICATION messages (RFC 4271 section 4.5).
 
-ghost use Rattle.std.specs.Prelude.{◌≡◌, ◌+◌, ◌≤◌, ◌++◌, length, take};
+ghost use Rattle.std.specs.Prelude.{◌≡◌, ◌+◌, ◌≤◌, ◌∷◌, ◌++◌, length, take};
 ghost use Rattle.bgp_fault.specs.Faults.{data_octets, IsWithin};
-ghost use Rattle.path_attrs.specs.Refusals.{fault_in};
+ghost use Rattle.bgp_msg.specs.Faults.{fault_in};
 ghost use Rattle.bgp_msg.specs.Written.{data_length};
 ghost use Rattle.rcp_model.specs.Messages.{notification_octets};
 
@@ -12,6 +12,31 @@ use bgp_fault::{Data, Fault};
 
 // The octets of a NOTIFICATION without data.
 const LEAST_NOTIFICATION: usize = 21;
+
+/// What a NOTIFICATION says.
+#[derive(Clone, Copy, Debug)]
+pub struct Notification<'a> {
+    /// The error code.
+    pub code: u8,
+    /// The error subcode.
+    pub sub: u8,
+    /// The data.
+    pub content: &'a [u8],
+}
+
+/// Reads the body of a NOTIFICATION, of at least 2 octets, as the check of its header leaves it. Any code and subcode
+/// is taken.
+pub fn read_notification(body: &[u8]) -> Notification<'_>
+    requires { 2 ≤ length body.now }
+    ensures { body.now ≡ result.code ∷ result.sub ∷ result.content.now }
+{
+    let (_, content) = body.split_at(2);
+    Notification {
+        code: body[0],
+        sub: body[1],
+        content,
+    }
+}
 
 /// Writes the NOTIFICATION of a fault at the front of `out`, and answers how many octets it has: 21 to 4,094. `body` is
 /// the octets in which the fault was found: a span of the fault names at most 4,073 of them.

@@ -2,7 +2,7 @@
 
 ghost use Rattle.std.specs.Prelude.{◌≡◌, ◌+◌, ◌<◌, ◌≤◌, [], Some, None, length, take, drop, slice_index, OnOk, IfErr, MatchOption, MatchResult, IfSome};
 ghost use Rattle.rcp_model.specs.Opens.{open_fields, open_octets, is_short_hold, parameter_size};
-ghost use Rattle.path_attrs.specs.Refusals.{fault_in};
+ghost use Rattle.bgp_msg.specs.Faults.{fault_in};
 ghost use Rattle.bgp_fault.specs.Faults.{IsWithin};
 ghost use Rattle.bgp_msg.specs.Opened.{fields_of, fault_but_identifier, parameters_fault, open_error};
 

@@ -3,7 +3,8 @@
 ghost use Rattle.std.specs.Prelude.{◌≡◌, ℕ, Some, List, ◌++◌};
 ghost use Rattle.std.specs.List.{concat, AllByRecursion};
 ghost use Rattle.rcp_model.specs.Messages.{messages_in, rest_of};
-ghost use Rattle.bgp_msg.specs.Cutting.{waiting_fault, Call, Reads, IsAtEnd, handed_messages, told_faults};
+ghost use Rattle.rcp_model.specs.Sessions.{fault_in_front};
+ghost use Rattle.bgp_msg.specs.Cutting.{Call, Reads, IsAtEnd, handed_messages, told_faults};
 
 /// However octets are cut into pieces, and whenever `next` is called: those messages are handed out that are the octets'
 /// one reading, in their order, and no others. At the end all were handed out, and the header fault that waits is that
@@ -14,12 +15,12 @@ pub fn any_cut()
     ensures messages { (pieces left : List (List ℕ)) (calls : List Call) (held : List ℕ) → Reads pieces calls held left
         → IsAtEnd held left → handed_messages calls ≡ messages_in (concat pieces) }
     ensures told { (pieces left : List (List ℕ)) (calls : List Call) (held : List ℕ) → Reads pieces calls held left
-        → AllByRecursion (λ fault. waiting_fault (rest_of (concat pieces)) ≡ Some fault) (told_faults calls) }
+        → AllByRecursion (λ fault. fault_in_front (rest_of (concat pieces)) ≡ Some fault) (told_faults calls) }
     ensures fault { (pieces left : List (List ℕ)) (calls : List Call) (held : List ℕ) → Reads pieces calls held left
-        → IsAtEnd held left → waiting_fault held ≡ waiting_fault (rest_of (concat pieces)) }
+        → IsAtEnd held left → fault_in_front held ≡ fault_in_front (rest_of (concat pieces)) }
     ensures same { (pieces left others left_others : List (List ℕ)) (calls calls_others : List Call) (held held_others : List ℕ)
         → concat pieces ≡ concat others
         → Reads pieces calls held left → IsAtEnd held left
         → Reads others calls_others held_others left_others → IsAtEnd held_others left_others
-        → (handed_messages calls ≡ handed_messages calls_others) × (waiting_fault held ≡ waiting_fault held_others) }
+        → (handed_messages calls ≡ handed_messages calls_others) × (fault_in_front held ≡ fault_in_front held_others) }
 {}

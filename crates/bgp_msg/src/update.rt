@@ -4,8 +4,7 @@ ghost use Rattle.std.specs.Prelude.{◌≡◌, ◌+◌, ◌<◌, ◌≤◌, ◌�
 ghost use Rattle.std.specs.List.{flat_map};
 ghost use Rattle.rcp_base.specs.IpPrefix.{prefix_octets};
 ghost use Rattle.rcp_model.specs.Updates.{update_octets, sections_of, section, after_section, has_section, prefixes_in, prefixes_fault};
-ghost use Rattle.path_attrs.specs.Refusals.{fault_in};
-ghost use Rattle.bgp_msg.specs.Faults.{malformed_sections, malformed_prefix};
+ghost use Rattle.bgp_msg.specs.Faults.{fault_in, malformed_sections, malformed_prefix};
 
 use crate::header::{MOST_OCTETS, UPDATE};
 use crate::put::{put, put_header};

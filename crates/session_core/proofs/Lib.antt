@@ -1,5 +1,4 @@
 pub mod UpdateLemmas
-pub mod FrontLemmas
 pub mod OpenLemmas
 pub mod StepLemmas
 pub mod RuleLemmas

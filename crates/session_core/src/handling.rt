@@ -1,8 +1,8 @@
 //! What each state does with each message (RFC 4271 section 8.2.2).
 
-ghost use Rattle.std.specs.Prelude.{◌≡◌, ◌≤◌, length, IfOk};
+ghost use Rattle.std.specs.Prelude.{◌≡◌, ◌+◌, ◌≤◌, length, IfOk};
 ghost use Rattle.bgp_msg.specs.HeaderFields.{IsLengthOf};
-ghost use Rattle.rcp_model.specs.Messages.{type_field};
+ghost use Rattle.rcp_model.specs.Messages.{message_octets};
 ghost use Rattle.rcp_model.specs.Sessions.{handle, opened, updated, notified, refused};
 ghost use Rattle.session_core.specs.declared.table.Rule.TheVariants.{Take, Obey};
 ghost use Rattle.session_core.specs.Rules.{in_open_sent, in_open_confirm, in_established};
@@ -17,7 +17,7 @@ use crate::state::{Claim, Negotiated, Peering, State};
 use crate::table::{ESTABLISHED, OPEN_CONFIRM, OPEN_SENT, Rule, find_rule};
 use crate::update::{Unread, read_body};
 use bgp_fault::{Data, FINITE_STATE_MACHINE_ERROR, Fault, UNSPECIFIC};
-use bgp_msg::HEADER_LEN;
+use bgp_msg::{Message, read_notification};
 use rcp_base::NoMemory;
 use roster::Roster;
 use std::alloc::Global;
@@ -27,15 +27,14 @@ pub fn handle(
     alloc: Global,
     roster: &Roster,
     state: State,
-    message: &[u8],
+    message: Message<'_>,
     now: u64,
     actions: &mut Actions,
 ) -> Result<State, NoMemory>
-    requires { IsLengthOf (type_field message.now) (length message.now) }
-    ensures { IfOk result (λ next. Takes (handle roster.now now message.now (phase_of state)) actions.old next actions.new) }
+    requires { IsLengthOf message.kind (19 + length message.body.now) }
+    ensures { IfOk result (λ next. Takes (handle roster.now now (message_octets message.entry.kind message.entry.body.now) (phase_of state)) actions.old next actions.new) }
 {
-    let kind = message[18];
-    let (_, body) = message.split_at(HEADER_LEN);
+    let Message { kind, body } = message;
     match state {
         State::OpenSent { since } => {
             let rule = find_rule(OPEN_SENT, kind);
@@ -129,10 +128,11 @@ fn obey(body: &[u8], actions: &mut Actions) -> State
     requires { 2 ≤ length body.now }
     ensures { Takes (notified body.now) actions.old result actions.new }
 {
+    let notification = read_notification(body);
     actions.closed = Some(Closed {
         why: Why::Received,
-        code: body[0],
-        sub: body[1],
+        code: notification.code,
+        sub: notification.sub,
     });
     State::Closed
 }

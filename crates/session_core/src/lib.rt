@@ -21,7 +21,6 @@
 
 mod actions;
 mod events;
-mod front;
 mod handling;
 mod laws;
 mod opening;

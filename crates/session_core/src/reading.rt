@@ -6,10 +6,10 @@ ghost use Rattle.session_core.specs.Shown.{phase_of};
 ghost use Rattle.session_core.specs.Steps.{Runs};
 
 use crate::actions::{Actions, Why};
-use crate::front::front;
 use crate::handling::handle;
 use crate::sending::close_by;
 use crate::state::State;
+use bgp_msg::{HEADER_LEN, first_message};
 use rcp_base::NoMemory;
 use roster::Roster;
 use std::alloc::Global;
@@ -38,10 +38,10 @@ pub fn read_on(
     let mut taken = 0;
     while state.reads() {
         let (_, rest) = octets.split_at(taken);
-        match front(rest) {
+        match first_message(rest) {
             Ok(Some(message)) => {
                 state = handle(alloc, roster, state, message, now, actions)?;
-                taken += message.len();
+                taken += HEADER_LEN + message.body.len();
             }
             Ok(None) => return Ok(Read { state, taken }),
             Err(fault) => {

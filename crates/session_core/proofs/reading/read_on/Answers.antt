@@ -1,11 +1,13 @@
-use Rattle.std.proofs.Common.{◌≡◌, List, [], ℕ, Bor, Option, Some, None, length, take, drop, refl, sym, ap, subst, ◌∙◌, arith, length-drop}
+use Rattle.std.proofs.Common.{◌≡◌, ◌+◌, List, [], ℕ, Option, Some, None, length, take, drop, refl, sym, ap, subst, ◌∙◌, arith, length-drop}
 use Rattle.std.specs.Prelude.{MatchOption}
 use Rattle.std.proofs.Math.Seq.{drop-length}
 use Rattle.std.proofs.lemmas.List.{drop-drop}
 use Rattle.rcp_model.specs.Messages.{message_size}
 use Rattle.rcp_model.specs.Sessions.{fault_in_front, course_of, handle}
 use Rattle.rcp_model.proofs.ReadingLemmas.{message_size-Some}
-use Rattle.path_attrs.specs.Refusals.{fault_in}
+use Rattle.bgp_msg.specs.declared.framing.Message.{Message}
+use Rattle.bgp_msg.specs.Cutting.{IsInFront}
+use Rattle.bgp_msg.specs.Faults.{fault_in}
 use Rattle.session_core.specs.declared.state.State.TheVariants as state
 use Rattle.session_core.specs.Shown.{phase_of}
 use Rattle.session_core.specs.Steps.{Takes, Runs}
@@ -14,26 +16,27 @@ use Rattle.session_core.proofs.reading.read_on.Goals as goal
 use Rattle.session_core.proofs.reading.read_on.Goals.{then-is_closed, else-is_closed}
 
 -- what stands in front of octets
-abbrev Stands : List ℕ → Option (Bor (List ℕ)) → Type 0
+abbrev Stands : List ℕ → Option Message → Type 0
 Stands octets found = MatchOption found
     ((message_size octets ≡ None) × (fault_in_front octets ≡ None))
-    (λ message. (message_size octets ≡ Some (length message.now)) × (message.now ≡ take (length message.now) octets))
+    (λ message. IsInFront octets message.kind message.body.now)
 
 pub loop-alloc-preserved : goal.loop-alloc-preserved
 loop-alloc-preserved c =
     let octets = c.args.octets.now in
     let taken = c.loop-alloc.taken in
     let back = c.split_at.ensures.back in
-    let message = c.in-Ok-Some.message.now in
+    let message = c.in-Ok-Some.message in
+    let count = 19 + length message.body.now in
     let given = subst (Stands c.split_at.result.1.now) c.in-Ok-Some.field-0-is c.in-Ok-Some.ensures.given in
-    let size = ap message_size (sym back) ∙ given.0 in
+    let size = ap message_size (sym back) ∙ given.size in
     let takes = subst (λ (m : List ℕ). Takes (handle c.args.roster.now c.args.now m (phase_of c.loop-alloc.state)) c.loop-alloc.actions c.in_ok-state-in-Ok-Some.state c.handle.new.actions)
-    (given.1 ∙ ap (take (length message)) back) c.in_ok-state-in-Ok-Some.ensures in
+    (sym given.message ∙ ap (take count) back) c.in_ok-state-in-Ok-Some.ensures in
     record {
-      within = omega (arith, c.loop-alloc.invariant.within, (message_size-Some (drop taken octets) (length message) size).within, length-drop taken octets);
+      within = omega (arith, c.loop-alloc.invariant.within, (message_size-Some (drop taken octets) count size).within, length-drop taken octets);
       same =
-          ap (λ (o : List ℕ). going c.args.roster.now c.args.now c.handle.new.actions o c.in_ok-state-in-Ok-Some.state) (sym (drop-drop (length message) taken octets))
-          ∙ goes-on c.args.roster.now c.args.now (drop taken octets) (length message) c.loop-alloc.state c.in_ok-state-in-Ok-Some.state c.loop-alloc.actions c.handle.new.actions size (sym c.reads.ensures ∙ c.loop-alloc-test.true) takes
+          ap (λ (o : List ℕ). going c.args.roster.now c.args.now c.handle.new.actions o c.in_ok-state-in-Ok-Some.state) (sym (drop-drop count taken octets))
+          ∙ goes-on c.args.roster.now c.args.now (drop taken octets) count c.loop-alloc.state c.in_ok-state-in-Ok-Some.state c.loop-alloc.actions c.handle.new.actions size (sym c.reads.ensures ∙ c.loop-alloc-test.true) takes
           ∙ c.loop-alloc.invariant.same;
     }
 
