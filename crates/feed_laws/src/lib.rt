@@ -1,0 +1,4 @@
+//! Laws of the meaning of a feed.
+#![tactic(auto)]
+
+pub mod readings;
