@@ -1,1 +1,5 @@
 pub mod ReadingLemmas
+pub mod StayLemmas
+pub mod TurnLemmas
+pub mod RunLemmas
+pub mod ConnectionLemmas

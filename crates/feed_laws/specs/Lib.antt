@@ -1,1 +1,2 @@
 pub mod FeedReading
+pub mod Cuts
