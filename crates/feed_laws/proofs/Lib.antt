@@ -3,3 +3,4 @@ pub mod StayLemmas
 pub mod TurnLemmas
 pub mod RunLemmas
 pub mod ConnectionLemmas
+pub mod LinkLemmas

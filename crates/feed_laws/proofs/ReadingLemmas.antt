@@ -67,9 +67,6 @@ record Taken (state : FeedState) (octets : List ℕ) (item : FeedRecord) (rest :
   there : octets ≡ record_octets item ++ rest
 
 module _ (state : FeedState) (octets : List ℕ) (all : AreOctets octets) (p : Passes state octets) where
-  len : ℕ
-  len = length_at octets
-
   size : frame_size octets ≡ 9 + length_at octets
   size = rw (le-ltb (length octets) 9 p.header) refl
 
