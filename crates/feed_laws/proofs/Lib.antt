@@ -4,3 +4,4 @@ pub mod TurnLemmas
 pub mod RunLemmas
 pub mod ConnectionLemmas
 pub mod LinkLemmas
+pub mod MeaningLemmas

@@ -129,7 +129,7 @@ no_more state fault octets = record { items = []; state = state; fault = Some fa
 abbrev only_finish : FeedState → FeedRecord → List ℕ → Feed
 only_finish state item rest = record { items = item ∷ []; state = after state item; fault = None; left = rest }
 
-front_fault : (state : FeedState) (octets : List ℕ) (fault : FeedWhy) → fault_in_front state octets ≡ Some fault → front state octets ≡ Err fault
+pub front_fault : (state : FeedState) (octets : List ℕ) (fault : FeedWhy) → fault_in_front state octets ≡ Some fault → front state octets ≡ Err fault
 unfolding front
 front_fault state octets fault e = rw e refl
 
@@ -224,14 +224,14 @@ not_empty : (before : List FeedRecord) (last : FeedRecord) → [] ≡ before ++ 
 not_empty [] last e = cc
 not_empty (item ∷ before) last e = cc
 
-end_of_none : EndInFinish [] → ⊥
+pub end_of_none : EndInFinish [] → ⊥
 end_of_none end = not_empty end.before end.last end.whole
 
 data_tail : {X : Type 0} {a b : X} {as_ bs : List X} → a ∷ as_ ≡ b ∷ bs → (a ≡ b) × (as_ ≡ bs)
 data_tail e = (cc, cc)
 
 -- a Z ends them, and no other record does
-end_at_first : (item : FeedRecord) (items before : List FeedRecord) (last : FeedRecord) → item ∷ items ≡ before ++ last ∷ [] → is_finish last.kind ≡ true → HaveNoFinish before
+pub end_at_first : (item : FeedRecord) (items before : List FeedRecord) (last : FeedRecord) → item ∷ items ≡ before ++ last ∷ [] → is_finish last.kind ≡ true → HaveNoFinish before
     → ((items ≡ []) × (is_finish item.kind ≡ true)) ⊎ ((is_finish item.kind ≡ false) × EndInFinish items)
 end_at_first item items [] last e finish others =
     let same = data_tail e in
