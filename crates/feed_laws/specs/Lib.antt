@@ -1,0 +1,3 @@
+pub mod FeedReading
+pub mod Cuts
+pub mod WholeReading

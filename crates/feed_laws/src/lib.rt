@@ -1,0 +1,5 @@
+//! Laws of the meaning of a feed.
+#![tactic(auto)]
+
+pub mod cuts;
+pub mod readings;
