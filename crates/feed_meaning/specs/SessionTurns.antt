@@ -6,7 +6,7 @@ use Rattle.rcp_base.specs.declared.kinds.Kind.{Kind}
 use Rattle.rcp_base.specs.declared.kinds.Kind.TheVariants as kind
 use Rattle.rcp_base.specs.Feed.{FeedRecord, OutRecord, is_time, moment_of}
 use Rattle.rcp_model.specs.Rosters.{RosterOf, slot_from}
-use Rattle.rcp_model.specs.Maps.{get_at, set_at}
+use Rattle.rcp_base.specs.Maps.{get_at, set_at}
 use Rattle.rcp_model.specs.LinkState.{same_number}
 use Rattle.rcp_model.specs.Sessions.{Ending, SessionEvent, Announce, Withdraw, Doing, seat_of, SessionState, Answer, Input, Octets, Seat, Moment, End, answer, begun, begun_established, is_closed, seat_taken, stepped, then_also}
 use Rattle.rcp_model.specs.Sessions as session

@@ -7,7 +7,7 @@ use Rattle.std.proofs.lemmas.Bool.{cases_Bool, and_parts, or_parts, or_left, or_
 use Rattle.rcp_base.specs.IpPrefix.{IpPrefix}
 use Rattle.rcp_base.specs.declared.names.Member.{Member}
 use Rattle.rcp_model.specs.declared.event.Edge.{Edge}
-use Rattle.rcp_model.specs.Maps.{same_prefix, is_among}
+use Rattle.rcp_base.specs.Maps.{same_prefix, is_among}
 use Rattle.rcp_model.specs.Routes.{route_in, is_usable}
 use Rattle.rcp_model.specs.Decision.{Contender, tied, is_nearer, nearest, choice}
 use Rattle.rcp_model.specs.RouteServer.{Domain, Announced, Announcements, Server, Links, same_place, announced_by, announced_at, announced_prefixes, router_at, slot_cost, announcement_contender, cons_some, candidates_from, candidates, choice_of, unless_own, offer, same_cost, cost_differs, moved, after}

@@ -5,12 +5,13 @@ use Rattle.std.specs.Int.{w16}
 use Rattle.std.proofs.lemmas.List.Elements.{All-take, All-drop}
 use Rattle.std.proofs.lemmas.Option.{none-some, cond_some}
 use Rattle.rcp_base.specs.IpPrefix.{IpPrefix, IsPrefix}
-use Rattle.rcp_model.specs.Maps.{is_among}
+use Rattle.rcp_base.specs.Maps.{is_among}
 use Rattle.rcp_model.specs.Attributes.{Attribute}
 use Rattle.rcp_model.specs.Routes.{RouteFields, route_of}
 use Rattle.rcp_model.specs.Updates.{Sections, Changes, section, after_section, has_section, sections_of, prefixes_in, update_fault, changes_of}
 use Rattle.rcp_model.specs.Sessions.{Announce, Withdraw, changes_events}
-use Rattle.rcp_model.specs.Telling.{AreOctets, IsRouteOf, IsTold}
+use Rattle.rcp_base.specs.Octets.{AreOctets}
+use Rattle.rcp_model.specs.Telling.{IsRouteOf, IsTold}
 use Rattle.rcp_model.proofs.AttributeLemmas.{IsShort, IsShort-attributes_in}
 use Rattle.rcp_model.proofs.CanonicalLemmas.{canonical_octets_again}
 use Rattle.rcp_model.proofs.OfferLemmas.{filter-keeps}

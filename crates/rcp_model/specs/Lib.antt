@@ -1,4 +1,3 @@
-pub use Rattle.rcp_base.specs.Maps
 pub mod Rising
 pub mod Messages
 pub mod Opens

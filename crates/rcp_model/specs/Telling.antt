@@ -2,7 +2,7 @@
 use Rattle.std.specs.Prelude.{◌≡◌, ℕ}
 use Rattle.std.specs.Int.{w16}
 use Rattle.rcp_base.specs.IpPrefix.{IsPrefix}
-pub use Rattle.rcp_base.specs.Octets.{AreOctets}
+use Rattle.rcp_base.specs.Octets.{AreOctets}
 use Rattle.rcp_model.specs.Attributes.{attributes_in, canonical_octets}
 use Rattle.rcp_model.specs.Routes.{RouteFields, route_in}
 use Rattle.rcp_model.specs.Sessions.{SessionEvent, Up, Announce, Withdraw, Input, Octets}

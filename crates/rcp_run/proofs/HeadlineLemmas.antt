@@ -8,7 +8,7 @@ use Rattle.rcp_base.specs.Feed.{FeedState, FeedRecord, Feed, begins, is_finish, 
 use Rattle.rcp_base.specs.Roster.{FaultyLine}
 use Rattle.rcp_model.specs.Rosters.{RosterOf, roster_in}
 use Rattle.feed_meaning.specs.Runs.{NumbersRise}
-use Rattle.rcp_model.specs.Telling.{AreOctets}
+use Rattle.rcp_base.specs.Octets.{AreOctets}
 use Rattle.feed_meaning.specs.WholeFeeds.{meaning_by, read_of, with_roster, meaning_of, HeadlineWritten}
 use Rattle.rcp_run.specs.Narrowing.{unread_fault, narrowed}
 use Rattle.rcp_run.proofs.FeedLemmas.{StandsInFront, stands, cases_front, within-last, within-more, within-fault, new_number}

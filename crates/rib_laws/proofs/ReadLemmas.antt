@@ -8,7 +8,7 @@ use Rattle.std.specs.Ordering.{nat_cmp, eq_by_cmp}
 use Rattle.rcp_base.specs.IpPrefix.{IpPrefix}
 use Rattle.rcp_base.specs.declared.names.Member.{Member}
 use Rattle.rcp_model.specs.declared.event.Edge.{Edge}
-use Rattle.rcp_model.specs.Maps.{same_prefix}
+use Rattle.rcp_base.specs.Maps.{same_prefix}
 use Rattle.rcp_model.specs.Routes.{RouteFields, route_of, route_in}
 use Rattle.rcp_model.specs.Decision.{choice}
 use Rattle.rcp_model.specs.RouteServer.{Domain, slot_cost, contender_of, cons_some, cost_differs}
