@@ -5,7 +5,7 @@ use Rattle.std.proofs.lemmas.List.{append-nil}
 use Rattle.rcp_base.specs.declared.kinds.Kind.{Kind}
 use Rattle.rcp_base.specs.declared.kinds.Kind.TheVariants as kind
 use Rattle.rcp_base.specs.Feed.{FeedRecord, OutRecord, begins}
-use Rattle.rcp_model.specs.Rosters.{RosterOf}
+use Rattle.rcp_base.specs.Roster.{RosterOf}
 use Rattle.rcp_base.specs.Maps.{get_at, same_prefix}
 use Rattle.rcp_model.specs.Updates.{replay}
 use Rattle.rcp_model.specs.LinkState.{same_number}

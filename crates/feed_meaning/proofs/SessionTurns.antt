@@ -8,7 +8,7 @@ use Rattle.std.proofs.lemmas.List.Elements.{All-nil}
 use Rattle.rcp_base.specs.declared.kinds.Kind.{Kind}
 use Rattle.rcp_base.specs.declared.kinds.Kind.TheVariants as kind
 use Rattle.rcp_base.specs.Feed.{FeedRecord, OutRecord, begins, moment_of}
-use Rattle.rcp_model.specs.Rosters.{RosterOf}
+use Rattle.rcp_base.specs.Roster.{RosterOf}
 use Rattle.rcp_base.specs.Maps.{get_at, set_at}
 use Rattle.rcp_model.specs.LinkState.{same_number}
 use Rattle.rcp_model.specs.Sessions.{Doing, Ending, Phase, OpenSent, Claiming, Negotiated, SessionState, Answer, Octets, Seat, Moment, End, later_of, answer, begun, begun_established, is_closed, seat_taken, stepped, then_also, seat_of, slot_in}

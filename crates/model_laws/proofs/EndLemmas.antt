@@ -5,7 +5,7 @@ use Rattle.std.specs.Int.{w16}
 use Rattle.std.proofs.lemmas.Bool.{cases_Bool, cond_both, both_ways}
 use Rattle.rcp_model.specs.Messages.{FaultOf, fault, type_field, messages_in, rest_of}
 use Rattle.rcp_model.specs.Updates.{update_fault}
-use Rattle.rcp_model.specs.Rosters.{RosterOf}
+use Rattle.rcp_base.specs.Roster.{RosterOf}
 use Rattle.rcp_model.specs.Sessions.{Peering, Phase, OpenSent, Claiming, OpenConfirm, Established, Closed, is_closed, reads, SessionState, Reason, Faulted, Received, Ended, SeatTaken, Ending, Up, Doing, nothing, sending, telling, later_of, then_also, Step, step, failed, refused, notified, keepalive, opening_fault, opened, updated, read_at, handle, handle_all, with_fault, with_rest, course_of, LARGE_HOLD, has_passed, expired, timed, tick, Input, Octets, Seat, Moment, End, Answer, moment_in, seated, claim_answered, answer, answers, begun, begun_established}
 use Rattle.rcp_model.proofs.AllLemmas.{all-append}
 use Rattle.rcp_model.proofs.SessionLemmas.{later_of-none, then-nothing, answer-closed, answer-octets, answer-seat, answer-moment, answer-end}

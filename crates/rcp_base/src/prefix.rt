@@ -1,16 +1,21 @@
 //! IP address prefixes and their octets (RFC 4271 section 4.3).
 
 ghost use Rattle.std.specs.Prelude.{◌≡◌, ℕ, ◌+◌, ◌<◌, ◌≤◌, List, ◌++◌, length, drop, Some, IfSome};
-ghost use Rattle.rcp_base.specs.IpPrefix.{IpPrefix, IsPrefix, prefix_of, prefix_at, octets_for, address_of_octets, prefix_octets, shard_of_prefix};
+ghost use Rattle.rcp_base.specs.IpPrefix.{IpPrefix, IsPrefix, prefix_of, prefix_at, octets_for, address_of_octets, prefix_octets, prefix_cmp, shard_of_prefix};
+ghost use Rattle.std.proofs.Common.{rules};
+ghost use Rattle.std.specs.Cmp.{partial_order_from_own_ties};
+ghost use Rattle.std.specs.Cmp.Rules.{comparing};
+ghost use Rattle.std.specs.Ordering.{as_partial_cmp};
 ghost use Rattle.rcp_base.specs.Text.{prefix_text};
 
 use crate::names::Addr;
+use std::cmp::Ordering;
 use std::fmt;
 use std::marker::Model;
 
 /// An address, and how many of its first bits count. The other bits are 0. Prefixes are ordered by
 /// address, then by length.
-#[derive(Clone, Copy, Debug, PartialEq, Eq, PartialOrd, Ord, Hash)]
+#[derive(Clone, Copy, Debug, PartialEq, Eq, Hash)]
 pub struct Prefix {
     addr: u32,
     len: u8,
@@ -85,6 +90,32 @@ impl Prefix {
         out[0] = self.len;
         out[1..1 + count].copy_from_slice(&self.addr.to_be_bytes()[..count]);
         1 + count
+    }
+}
+
+impl Ord for Prefix {
+    ghost cmp = { prefix_cmp };
+
+    ghost total = { Prim.search (comparing, rules) };
+
+    ghost matches_partial_cmp = { Prim.search (comparing, rules) };
+
+    ghost matches_eq = { Prim.search (comparing, rules) };
+
+    fn cmp(&self, other: &Prefix) -> Ordering {
+        self.addr
+            .cmp(&other.addr)
+            .then(self.len.cmp(&other.len))
+    }
+}
+
+impl PartialOrd for Prefix {
+    ghost partial_cmp = { as_partial_cmp prefix_cmp };
+
+    ghost laws = { partial_order_from_own_ties (Prim.search (comparing, rules)) (Prim.search (comparing, rules)) };
+
+    fn partial_cmp(&self, other: &Prefix) -> Option<Ordering> {
+        Some(self.cmp(other))
     }
 }
 

@@ -5,7 +5,7 @@ use Rattle.std.proofs.lemmas.Bool.{false≢true, eqb-false}
 use Rattle.std.proofs.lemmas.Option.{slice_get_within, get_or_from_slice_get}
 use Rattle.std.proofs.lemmas.List.Elements.{Contains-get_or}
 use Rattle.rcp_base.specs.declared.names.Member.{Member}
-use Rattle.rcp_model.specs.declared.event.Edge.{Edge}
+use Rattle.rcp_base.specs.declared.names.Edge.{Edge}
 use Rattle.rcp_model.specs.Routes.{route_in, is_usable}
 use Rattle.rcp_model.specs.Decision.{Contender, contender, tied, IsNearest}
 use Rattle.rcp_model.specs.RouteServer.{Domain, Announced, slot_cost, announcement_contender, cons_some, candidates_from, candidates, IsCandidate, choice_of, unless_own, offer}

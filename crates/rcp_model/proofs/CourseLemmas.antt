@@ -11,7 +11,7 @@ use Rattle.rcp_model.specs.Messages.{FaultOf, fault, type_field, IsMessage, mess
 use Rattle.rcp_model.specs.Routes.{RouteFields, route_of}
 use Rattle.rcp_model.specs.Updates.{Changes, update_fault, changes_of}
 use Rattle.rcp_model.specs.Opens.{VERSION}
-use Rattle.rcp_model.specs.Rosters.{RosterOf}
+use Rattle.rcp_base.specs.Roster.{RosterOf}
 use Rattle.rcp_base.specs.Octets.{AreOctets}
 use Rattle.rcp_model.specs.Telling.{IsTold}
 use Rattle.rcp_model.specs.Sessions.{Negotiated, Peering, Phase, OpenSent, Claiming, OpenConfirm, Established, Closed, is_closed, reads, SessionState, Ending, SessionEvent, Up, Announce, Withdraw, Doing, nothing, sending, telling, later_of, then_also, Step, step, failed, refused, notified, keepalive, opening_fault, negotiated, opened, changes_events, updated, read_at, handle, handle_all, with_fault, with_rest, course_of, LARGE_HOLD, has_passed, expired, timed, tick, Octets, Seat, Moment, End, Answer, moment_in, seat_taken, seated, claim_answered, answer, own_open, begun, seat_of, slot_in}

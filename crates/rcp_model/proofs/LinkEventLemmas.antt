@@ -6,7 +6,7 @@ use Rattle.std.specs.Int.{w16}
 use Rattle.std.proofs.lemmas.Bool.{cases_Bool, and_parts, or_parts, or_left, or_right, eqb-true, eq-eqb, ltb-true, ltb-false, both_ways}
 use Rattle.rcp_base.specs.IpPrefix.{IpPrefix}
 use Rattle.rcp_base.specs.declared.names.Member.{Member}
-use Rattle.rcp_model.specs.declared.event.Edge.{Edge}
+use Rattle.rcp_base.specs.declared.names.Edge.{Edge}
 use Rattle.rcp_base.specs.Maps.{same_prefix, is_among}
 use Rattle.rcp_model.specs.Routes.{route_in, is_usable}
 use Rattle.rcp_model.specs.Decision.{Contender, tied, is_nearer, nearest, choice}

@@ -5,7 +5,7 @@ use Rattle.std.specs.List.{list_any, AllByRecursion}
 use Rattle.std.specs.Int.{w16}
 use Rattle.std.proofs.lemmas.Bool.{cases_Bool, and_parts, or_cases, eqb-true, not-true, ltb-false}
 use Rattle.rcp_base.specs.declared.names.Member.{Member}
-use Rattle.rcp_model.specs.declared.event.Edge.{Edge}
+use Rattle.rcp_base.specs.declared.names.Edge.{Edge}
 use Rattle.rcp_model.specs.Attributes.{canonical_octets, attributes_in}
 use Rattle.rcp_model.specs.Routes.{route_of, route_in, is_usable, is_long}
 use Rattle.rcp_model.specs.Decision.{Contender, tied, is_of, is_nearer, nearest, choice}

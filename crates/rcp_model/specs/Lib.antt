@@ -14,7 +14,6 @@ pub mod Graphs
 pub mod Decision
 pub mod RouteServer
 pub mod Assigned
-pub mod Rosters
 pub mod Sessions
 pub mod Telling
 pub mod Ribs

@@ -9,7 +9,7 @@ use Rattle.std.specs.FinSet as set_of
 use Rattle.std.specs.Ordering.{nat_cmp}
 use Rattle.rcp_base.specs.IpPrefix.{IpPrefix, prefix_cmp}
 use Rattle.rcp_base.specs.declared.names.Member.{Member}
-use Rattle.rcp_model.specs.declared.event.Edge.{Edge}
+use Rattle.rcp_base.specs.declared.names.Edge.{Edge}
 use Rattle.rcp_base.specs.Maps.{get_at, same_prefix}
 use Rattle.rcp_model.specs.Routes.{RouteFields, route_in}
 use Rattle.rcp_model.specs.Updates.{Table}

@@ -8,7 +8,7 @@ use Rattle.rcp_model.specs.Messages.{FaultOf, fault, header_fault, type_field, m
 use Rattle.rcp_model.specs.Opens.{open_fields, open_fault, open_octets}
 use Rattle.rcp_model.specs.Routes.{RouteFields, route_of}
 use Rattle.rcp_model.specs.Updates.{Changes, update_fault, changes_of}
-use Rattle.rcp_model.specs.Rosters.{RosterOf}
+use Rattle.rcp_base.specs.Roster.{RosterOf}
 
 -- ---- the states (section 8.2.2). Moments are in seconds.
 

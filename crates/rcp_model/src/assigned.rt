@@ -1,5 +1,5 @@
 use crate::costs::Costs;
-use crate::event::Edge;
+use rcp_base::Edge;
 use crate::route::Route;
 use rcp_base::{Addr, Prefix, RouterId, Slot};
 

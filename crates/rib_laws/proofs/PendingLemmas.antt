@@ -6,7 +6,7 @@ use Rattle.std.proofs.lemmas.Bool.{and_parts, and_from, or_cases, or_left, or_ri
 use Rattle.std.proofs.lemmas.Slice.Eq.{bytes_eq-Decides}
 use Rattle.rcp_base.specs.IpPrefix.{IpPrefix}
 use Rattle.rcp_base.specs.declared.names.Member.{Member}
-use Rattle.rcp_model.specs.declared.event.Edge.{Edge}
+use Rattle.rcp_base.specs.declared.names.Edge.{Edge}
 use Rattle.rcp_base.specs.Maps.{same_prefix}
 use Rattle.rcp_model.specs.Routes.{RouteFields}
 use Rattle.rcp_model.specs.RouteServer.{Domain, Announced, Server, ServerEvent, same_cost, slot_cost, cost_differs, announced_at, is_connected, is_pending, after}

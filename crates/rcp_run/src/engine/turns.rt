@@ -4,8 +4,8 @@ ghost use Rattle.std.specs.Prelude.{◌≡◌, ◌<◌, ◌+◌, ◌++◌, ◌&&
 ghost use Rattle.std.specs.List.{list_any, position, remove, flat_map, AllByRecursion};
 ghost use Rattle.rcp_base.specs.Feed.{moment_of};
 ghost use Rattle.rcp_model.specs.LinkState.{same_number};
-ghost use Rattle.rcp_model.specs.declared.event.Edge.{Edge};
-ghost use Rattle.rcp_model.specs.Rosters.{RosterOf};
+ghost use Rattle.rcp_base.specs.declared.names.Edge.{Edge};
+ghost use Rattle.rcp_base.specs.Roster.{RosterOf};
 ghost use Rattle.rcp_model.specs.RouteServer.{Domain, after_all};
 ghost use Rattle.rcp_model.specs.Sessions.{Moment, End, Doing, is_closed, then_also, seat_taken, seat_of};
 ghost use Rattle.rcp_base.specs.Octets.{AreOctets};
