@@ -38,6 +38,10 @@ AGGREGATOR = 7
 abbrev pub COMMUNITIES : ℕ
 COMMUNITIES = 8
 
+-- How wide an AS number is in AS_PATH and AGGREGATOR: two octets (section 4.3).
+abbrev pub number_width : Width
+number_width = w16
+
 -- whether the flag of this weight is set
 abbrev pub has_flag : ℕ → ℕ → Bool
 has_flag weight flags = flags / weight % 2 == 1
