@@ -82,9 +82,8 @@ pub struct Path {
 
 impl Model for Path {
     ghost use Rattle.std.specs.Prelude.{◌≡◌, List};
-    ghost use Rattle.rcp_model.specs.Attributes.{Segment as Shown, segments_in};
+    ghost use Rattle.rcp_model.specs.Attributes.{Segment as Shown, number_width, segments_in};
     ghost use Rattle.path_attrs.specs.Segments.{path_octets};
-    ghost use Rattle.path_attrs.specs.Width.{number_width};
 
     ghost Value = { List Shown };
 

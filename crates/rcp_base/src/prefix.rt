@@ -5,7 +5,8 @@ ghost use Rattle.rcp_base.specs.IpPrefix.{IpPrefix, IsPrefix, prefix_of, prefix_
 ghost use Rattle.std.proofs.Common.{rules};
 ghost use Rattle.std.specs.Cmp.{partial_order_from_own_ties};
 ghost use Rattle.std.specs.Cmp.Rules.{comparing};
-ghost use Rattle.std.specs.Ordering.{as_partial_cmp};
+ghost use Rattle.std.specs.Ordering.{as_partial_cmp, is_lt};
+ghost use Rattle.rcp_base.specs.Maps.{is_before};
 ghost use Rattle.rcp_base.specs.Text.{prefix_text};
 
 use crate::names::Addr;
@@ -103,9 +104,7 @@ impl Ord for Prefix {
     ghost matches_eq = { Prim.search (comparing, rules) };
 
     fn cmp(&self, other: &Prefix) -> Ordering {
-        self.addr
-            .cmp(&other.addr)
-            .then(self.len.cmp(&other.len))
+        self.addr.cmp(&other.addr).then(self.len.cmp(&other.len))
     }
 }
 
@@ -163,4 +162,9 @@ pub fn octets_are_read_again()
 /// No prefix's octets begin another's: the octets tell the prefix, and where it ends.
 pub fn octets_tell_the_prefix()
     ensures { (p q : IpPrefix) (x y : List ℕ) → IsPrefix p → IsPrefix q → prefix_octets p ++ x ≡ prefix_octets q ++ y → (p ≡ q) × (x ≡ y) }
+{}
+
+/// A prefix is before another exactly where it compares as less.
+pub fn before_is_less()
+    ensures { (p q : IpPrefix) → is_before p q ≡ is_lt (prefix_cmp p q) }
 {}
