@@ -8,7 +8,7 @@ use Rattle.std.proofs.Math.ListN.{length-append}
 use Rattle.std.proofs.lemmas.List.Elements.{All-contains, Contains-append_left, Contains-append_right, Contains-append_cases}
 use Rattle.std.proofs.lemmas.Map.Entries.{length-keys_of}
 use Rattle.rcp_base.specs.Maps.{get_at}
-use Rattle.rcp_model.specs.declared.event.Edge.{Edge}
+use Rattle.rcp_base.specs.declared.names.Edge.{Edge}
 use Rattle.rcp_model.specs.LinkState.{Kept, same_number}
 use Rattle.rcp_model.specs.Graphs.{routers_in}
 use Rattle.rcp_model.proofs.GraphLemmas.{All-from_members, routers_at, routers_within}
