@@ -1,7 +1,6 @@
 use crate::costs::Costs;
-use rcp_base::Edge;
 use crate::route::Route;
-use rcp_base::{Addr, Prefix, RouterId, Slot};
+use rcp_base::{Addr, Edge, Prefix, RouterId, Slot};
 
 /// What knows which routes the routers of a roster announce, and which it has given to each of them.
 ///

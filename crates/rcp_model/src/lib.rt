@@ -18,6 +18,6 @@ pub use event::{Change, Event};
 pub use lsa_fault::LsaFault;
 pub use octets::Octets;
 pub use offer::Offer;
+pub use rcp_base::Edge;
 pub use route::Route;
 pub use route_no::RouteNo;
-pub use rcp_base::Edge;

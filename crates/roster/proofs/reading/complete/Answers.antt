@@ -8,7 +8,7 @@ pub returns : goal.returns
 returns c =
     c.in-Some.ensures.value
     ∙ sym (ap Some (of_named c.in-Some.settings c.args.draft c.draft.inside.members c.draft.inside.links.items
-        (ap (λ (named : Named). named.members) c.draft.view_is) (ap (λ (named : Named). named.links) c.draft.view_is)))
+    (ap (λ (named : Named). named.members) c.draft.view_is) (ap (λ (named : Named). named.links) c.draft.view_is)))
 
 pub invariant_of-result : goal.invariant_of-result
 invariant_of-result c =
