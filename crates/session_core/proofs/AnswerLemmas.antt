@@ -1,5 +1,5 @@
 -- What the calls of a session come to.
-use Rattle.std.proofs.Common.{◌≡◌, ℕ, Bool, true, false, List, [], ◌++◌, max, refl, sym, ap, subst, ◌∙◌}
+use Rattle.std.proofs.Common.{◌≡◌, ◌≢◌, ℕ, Bool, true, false, List, [], ◌++◌, max, refl, sym, ap, subst, ◌∙◌}
 use Rattle.std.specs.Prelude.{if◌then◌else◌}
 use Rattle.rcp_base.specs.Roster.{RosterOf}
 use Rattle.rcp_model.specs.Sessions.{Phase, OpenConfirm, Closed, Peering, Doing, nothing, then_also, sending, keepalive, SessionState, Course, Answer, Input, Octets, Seat, Moment, End, is_closed, moment_in, course_of, answered, stepped, claim_answered, seated, tick, shut, answer}
@@ -51,6 +51,11 @@ clock-answers roster now h new a0 a1 next unspent open_ none takes unspent' is =
     let s = tick m h.state.phase in
     answers-from (answer roster (Moment now) h.state) (stepped m h.state.kept s) h new new a0 a1 (answer-moment roster now h.state open_) unspent unspent' refl none
     (is ∙ ap (λ (p : Phase). let r : SessionState = record { phase = p; kept = if is_closed p then [] else h.state.kept; latest = m } in r) takes.phase) takes.does
+
+-- what is sent at a moment is what the timers send
+pub moment-sends : (roster : RosterOf) (now : ℕ) (h : Held) → is_closed h.state.phase ≡ false → (tick (max h.state.latest now) h.state.phase).does.sent ≢ []
+    → (answer roster (Moment now) h.state).does.sent ≢ []
+moment-sends roster now h open_ sends none = sends (sym (ap (λ (r : Answer). r.does.sent) (answer-moment roster now h.state open_)) ∙ none)
 
 pub seat-answers : (roster : RosterOf) (free : Bool) (now : ℕ) (h mid ran new : Held) (a0 a1 : Actions) → h.spent ≡ false → is_closed h.state.phase ≡ false
     → mid.state ≡ record { phase = h.state.phase; kept = h.state.kept; latest = max h.state.latest now }

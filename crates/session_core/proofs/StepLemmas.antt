@@ -1,5 +1,5 @@
 -- Steps, by what was done.
-use Rattle.std.proofs.Common.{◌≡◌, ℕ, Bool, true, false, not, ◌&&◌, ◌==◌, refl, sym, ap, ◌∙◌}
+use Rattle.std.proofs.Common.{◌≡◌, ◌≢◌, ℕ, Bool, true, false, not, ◌&&◌, ◌==◌, List, [], ◌∷◌, Result, Ok, Err, OnErr, refl, sym, ap, ◌∙◌}
 use Rattle.std.specs.Prelude.{if◌then◌else◌}
 use Rattle.rcp_model.specs.Sessions.{Phase, Peering, Step, step, nothing, sending, keepalive, LARGE_HOLD, expired, has_passed, timed}
 use Rattle.rcp_model.proofs.SessionLemmas.{then-nothing}
@@ -12,6 +12,18 @@ use Rattle.session_core.specs.Timers.{is_overdue, is_due, KeepsAlive}
 -- nothing is done
 pub takes-nothing : (state : State) (phase : Phase) (actions : Actions) → phase_of state ≡ phase → Takes (step phase nothing) actions state actions
 takes-nothing state phase actions is = record { phase = is; does = sym (then-nothing (doing_of actions)) }
+
+-- ---- want of memory
+
+-- what holds anyway holds after an error
+pub after-error : {T E P : Type 0} (r : Result T E) → P → OnErr r P
+after-error (Ok x) p = tt
+after-error (Err e) p = p
+
+-- something is sent
+pub is-sent : (message : List ℕ) (messages sent : List (List ℕ)) → sent ≡ message ∷ messages → sent ≢ []
+is-sent message messages [] e = absurd (cc)
+is-sent message messages (m ∷ ms) e = λ none. absurd (cc)
 
 -- ---- timers
 
@@ -42,3 +54,7 @@ module _ (phase : Peering → Phase) (now : ℕ) (p : Peering) where
     by : (due : Bool) → is_due p now ≡ due → Takes (if is_due p now then step (phase (record p { sent = now })) (sending keepalive) else step (phase p) nothing) before state after
     by true e = rw (e) (record { phase = is ∙ ap phase (keeps.peering ∙ rw (e) refl); does = keeps.does ∙ rw (e) refl })
     by false e = rw (e) (record { phase = is ∙ ap phase (keeps.peering ∙ rw (e) refl); does = keeps.does ∙ rw (e) refl })
+
+  -- a KEEPALIVE that is due is sent
+  pub due-sends : is_overdue p now ≡ false → is_due p now ≡ true → (timed phase now p).does.sent ≢ []
+  due-sends kept due = is-sent keepalive [] _ (ap (λ (s : Step). s.does.sent) (timed-kept kept) ∙ rw (due) refl)

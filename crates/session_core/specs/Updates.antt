@@ -1,12 +1,14 @@
 -- What reading the body of an UPDATE says of its first fault.
 use Rattle.std.specs.Prelude.{◌≡◌, ℕ, ◌≤◌, List, filter, not, Some}
+use Rattle.std.specs.BTreeSet as tree_set
+use Rattle.std.specs.BTreeSet.{BTreeSet}
 use Rattle.bgp_fault.specs.Faults.{IsWithin}
 use Rattle.bgp_msg.specs.Written.{data_length}
 use Rattle.bgp_msg.specs.Faults.{fault_in}
 use Rattle.rcp_model.specs.Messages.{FaultOf}
 use Rattle.rcp_model.specs.Attributes.{Attribute, attributes_in, number_width}
 use Rattle.rcp_model.specs.Routes.{route_of}
-use Rattle.rcp_base.specs.IpPrefix.{IpPrefix}
+use Rattle.rcp_base.specs.IpPrefix.{IpPrefix, prefix_cmp}
 use Rattle.rcp_base.specs.Maps.{is_among}
 use Rattle.rcp_model.specs.Updates.{sections_of, prefixes_in, update_fault}
 use Rattle.session_core.specs.declared.update.Found.{Found}
@@ -40,3 +42,7 @@ pub record IsFirst (body : List ℕ) (found : Found) : Type 0 where
 -- these prefixes without those of a section
 abbrev pub not_announced : List ℕ → List IpPrefix → List IpPrefix
 not_announced nlri prefixes = filter (λ p. not (is_among (prefixes_in nlri) p)) prefixes
+
+-- a set of exactly the prefixes of a list
+abbrev pub HasThose : BTreeSet IpPrefix → List IpPrefix → Type 0
+HasThose set prefixes = (q : IpPrefix) → tree_set.contains prefix_cmp set q ≡ is_among prefixes q

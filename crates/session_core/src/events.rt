@@ -1,9 +1,10 @@
 //! What an UPDATE tells, prefix by prefix (RFC 4271 section 4.3).
 
-ghost use Rattle.std.specs.Prelude.{◌≡◌, [], ◌∷◌, ◌++◌, ◌==◌, true, not, length, map, filter, OnOk, None};
+ghost use Rattle.std.specs.Prelude.{◌≡◌, [], ◌∷◌, ◌++◌, ◌==◌, true, not, length, map, filter, IfOk, OnOk, None};
 ghost use Rattle.std.specs.Int.{w16};
 ghost use Rattle.rcp_model.specs.Attributes as attributes;
 ghost use Rattle.rcp_base.specs.Maps.{is_among};
+ghost use Rattle.session_core.specs.Updates.{HasThose};
 ghost use Rattle.rcp_model.specs.Sessions.{Up, Announce, Withdraw, then_also, telling, changes_events};
 ghost use Rattle.rcp_model.specs.Updates.{prefixes_in, prefixes_fault, changes_of};
 ghost use Rattle.session_core.specs.Shown.{doing_of, event_of};
@@ -17,6 +18,7 @@ use rcp_base::{NoMemory, Prefix};
 use rcp_model::Route;
 use roster::Roster;
 use std::alloc::Global;
+use std::collections::BTreeSet;
 
 /// Tells besides that the session is established.
 pub fn tell_up(actions: &mut Actions) -> Result<(), NoMemory>
@@ -42,7 +44,7 @@ pub fn tell_changes(
     ensures { OnOk result (doing_of actions.new
         ≡ then_also (doing_of actions.old) (telling (changes_events roster.now.as_number (changes_of body.now)))) }
 {
-    tell_withdrawn(&mut actions.events, update.withdrawn, update.nlri)?;
+    tell_withdrawn(alloc, &mut actions.events, update.withdrawn, update.nlri)?;
     if !update.nlri.is_empty() {
         let route = route(alloc, &update.attrs, roster.as_number())?;
         tell_announced(&mut actions.events, update.nlri, &route)?;
@@ -50,8 +52,9 @@ pub fn tell_changes(
     Ok(())
 }
 
-/// Tells that the prefixes of a section are withdrawn, but for those of another one.
+/// Tells that the prefixes of a section are withdrawn, but for those of another one, which is read once.
 fn tell_withdrawn(
+    alloc: Global,
     events: &mut Vec<SessionEvent>,
     section: &[u8],
     nlri: &[u8],
@@ -61,9 +64,13 @@ fn tell_withdrawn(
     ensures { OnOk result (map event_of events.new.items
         ≡ map event_of events.old.items ++ map Withdraw (filter (λ p. not (is_among (prefixes_in nlri.now) p)) (prefixes_in section.now))) }
 {
+    if section.is_empty() {
+        return Ok(());
+    }
+    let announced = prefixes_of(alloc, nlri)?;
     let mut place = 0;
     while let Some((prefix, next)) = next_prefix(section, place) {
-        if !has_prefix(nlri, prefix) {
+        if !announced.contains(&prefix) {
             events.push(SessionEvent::Withdraw { prefix })?;
         }
         place = next;
@@ -90,17 +97,18 @@ fn tell_announced(
     Ok(())
 }
 
-/// Whether the prefix stands in the section.
-fn has_prefix(section: &[u8], prefix: Prefix) -> bool
+/// The prefixes of a section, each once.
+fn prefixes_of(alloc: Global, section: &[u8]) -> Result<BTreeSet<Prefix>, NoMemory>
     requires { prefixes_fault section.now ≡ None }
-    ensures { result ≡ is_among (prefixes_in section.now) prefix }
+    ensures { IfOk result (λ prefixes. HasThose prefixes (prefixes_in section.now)) }
 {
+    let mut prefixes = BTreeSet::new(alloc);
     let mut place = 0;
-    while let Some((other, next)) = next_prefix(section, place) {
-        if prefix == other {
-            return true;
+    while let Some((prefix, next)) = next_prefix(section, place) {
+        if prefixes.insert(prefix).is_err() {
+            return Err(NoMemory);
         }
         place = next;
     }
-    false
+    Ok(prefixes)
 }

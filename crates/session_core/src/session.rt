@@ -1,6 +1,6 @@
 //! A session, and what comes to it.
 
-ghost use Rattle.std.specs.Prelude.{◌≡◌, ◌<◌, true, false, [], length, IfOk, OnOk, OnErr, if◌then◌else◌};
+ghost use Rattle.std.specs.Prelude.{◌≡◌, ◌<◌, true, false, [], length, IfOk, OnOk, OnErr, if◌then◌else◌, ◌≢◌};
 ghost use Rattle.rcp_base.specs.Roster.{RosterOf};
 ghost use Rattle.rcp_model.specs.Sessions.{Octets, Seat, Moment, End, answer, begun, begun_established, course_of, seated, seat_taken, claim_answered, is_closed, Closed as ClosedPhase, seat_of, slot_in};
 ghost use Rattle.session_core.specs.Shown.{doing_of, phase_of, terms_of};
@@ -122,10 +122,12 @@ impl Session {
     /// Octets came at a moment, in seconds; one below the latest counts as that. Whole messages are handled in order, and
     /// a faulty header with its 19th octet. In Claiming they are kept. On a closed session nothing is done.
     ///
-    /// `NoMemory` spends the session: each later call answers it, but for `end`.
+    /// `NoMemory` spends the session: each later call answers it, but for `end`. It never comes on a closed session that
+    /// isn't spent.
     pub fn bytes(&mut self, roster: &Roster, piece: &[u8], now: u64) -> Result<Actions, NoMemory>
         ensures answered { IfOk result (λ actions. Answers (answer roster.now (Octets piece.now now) self.old.state) self.old self.new actions) }
         ensures spent { OnErr result (self.new.spent ≡ true) }
+        ensures want { OnErr result (self.old.spent ≡ false → is_closed self.old.state.phase ≡ false) }
     {
         if self.spent {
             return Err(NoMemory);
@@ -146,10 +148,12 @@ impl Session {
     /// the octets that were kept are read at this moment; else Cease is sent (RFC 4271 section 6.7), and the session is
     /// closed. Where no claim waits nothing is done.
     ///
-    /// `NoMemory` spends the session: each later call answers it, but for `end`.
+    /// `NoMemory` spends the session: each later call answers it, but for `end`. It never comes on a closed session that
+    /// isn't spent.
     pub fn seated(&mut self, roster: &Roster, free: bool, now: u64) -> Result<Actions, NoMemory>
         ensures answered { IfOk result (λ actions. Answers (answer roster.now (Seat free now) self.old.state) self.old self.new actions) }
         ensures spent { OnErr result (self.new.spent ≡ true) }
+        ensures want { OnErr result (self.old.spent ≡ false → is_closed self.old.state.phase ≡ false) }
     {
         if self.spent {
             return Err(NoMemory);
@@ -169,10 +173,12 @@ impl Session {
     /// hold time has passed since a message was last read, or 240 seconds since it was opened and no claim was answered.
     /// Else a KEEPALIVE is sent where a third of the hold time has passed since the last one.
     ///
-    /// `NoMemory` spends the session: each later call answers it, but for `end`.
+    /// `NoMemory` spends the session: each later call answers it, but for `end`. It comes only where a message is to be
+    /// sent, or the session was spent.
     pub fn clock(&mut self, now: u64) -> Result<Actions, NoMemory>
         ensures answered { IfOk result (λ actions. (roster : RosterOf) → Answers (answer roster (Moment now) self.old.state) self.old self.new actions) }
         ensures spent { OnErr result (self.new.spent ≡ true) }
+        ensures want { OnErr result (self.old.spent ≡ false → (roster : RosterOf) → (answer roster (Moment now) self.old.state).does.sent ≢ []) }
     {
         if self.spent {
             return Err(NoMemory);

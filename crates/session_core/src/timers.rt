@@ -1,10 +1,10 @@
 //! Timers (RFC 4271 sections 8.1.3 and 10).
 
-ghost use Rattle.std.specs.Prelude.{◌≡◌, IfOk};
+ghost use Rattle.std.specs.Prelude.{◌≡◌, ◌≢◌, [], true, IfOk, OnErr};
 ghost use Rattle.rcp_model.specs.Sessions.{has_passed, expired, tick};
 ghost use Rattle.session_core.specs.Shown.{phase_of, peering_of};
 ghost use Rattle.session_core.specs.Steps.{Takes};
-ghost use Rattle.session_core.specs.Timers.{is_overdue, KeepsAlive};
+ghost use Rattle.session_core.specs.Timers.{is_overdue, is_due, KeepsAlive};
 
 use crate::actions::{Actions, Why};
 use crate::sending::{close_by, send_keepalive};
@@ -19,7 +19,8 @@ const LARGE_HOLD: u64 = 240;
 /// Does what is due at a moment that isn't below those before: the hold timer is tested first, and then a KEEPALIVE is
 /// sent where a third of the hold time has passed since the last one.
 pub fn tick(alloc: Global, state: State, now: u64, actions: &mut Actions) -> Result<State, NoMemory>
-    ensures { IfOk result (λ next. Takes (tick now (phase_of state)) actions.old next actions.new) }
+    ensures taken { IfOk result (λ next. Takes (tick now (phase_of state)) actions.old next actions.new) }
+    ensures want { OnErr result ((tick now (phase_of state)).does.sent ≢ []) }
 {
     match state {
         State::OpenSent { since } => {
@@ -72,7 +73,8 @@ fn keep_alive(
     now: u64,
     actions: &mut Actions,
 ) -> Result<Peering, NoMemory>
-    ensures { IfOk result (λ next. KeepsAlive (peering_of peering) now actions.old (peering_of next) actions.new) }
+    ensures kept { IfOk result (λ next. KeepsAlive (peering_of peering) now actions.old (peering_of next) actions.new) }
+    ensures want { OnErr result (is_due (peering_of peering) now ≡ true) }
 {
     let hold = peering.negotiated.hold;
     if hold == 0 || !has_passed(u64::from(hold / 3), peering.sent, now) {

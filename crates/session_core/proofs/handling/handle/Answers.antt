@@ -4,8 +4,7 @@ use Rattle.rcp_model.specs.Messages.{message_octets}
 use Rattle.rcp_model.specs.Sessions.{Step, handle, read_at}
 use Rattle.session_core.specs.declared.state.State.{State}
 use Rattle.session_core.specs.declared.table.Rule.{Rule}
-use Rattle.session_core.specs.declared.table.TheConstants.{OPEN_SENT, OPEN_CONFIRM, ESTABLISHED}
-use Rattle.session_core.specs.Rules.{rule_of, in_open_sent, in_open_confirm, in_established}
+use Rattle.session_core.specs.Rules.{in_open_sent, in_open_confirm, in_established}
 use Rattle.session_core.specs.Shown.{phase_of, peering_of}
 use Rattle.session_core.specs.Steps.{Takes}
 use Rattle.session_core.proofs.StepLemmas.{takes-nothing}
