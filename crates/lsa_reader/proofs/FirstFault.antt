@@ -15,6 +15,7 @@ use Rattle.std.specs.Option.{ok_or}
 use Rattle.rcp_base.specs.Checks.{first_failing, unless}
 use Rattle.rcp_model.specs.RouterLsas.{has_zero_sums, summed, age_field, sequence_field, checksum_field, links_in, link_count, link_state_id, advertising_router, lsa_of, lsa_checks, lsa_at}
 use Rattle.lsa_reader.specs.Answers.{Refuses, Gives}
+use Rattle.lsa_reader.specs.Room.{HasLink, TakesRoom}
 
 -- the answer by what each check says
 abbrev judged : Bool → Bool → Bool → Bool → RouterLsa → Result RouterLsa LsaFault
@@ -107,6 +108,23 @@ lsa_at-ok octets links s e f =
       content = unwrap_or found [];
     } in Ok lsa) e
 
+-- no other check is the first that fails
+not_first : (links owner : Bool) (lsa : RouterLsa) → (judged false false links owner lsa ≢ Err Short) × (judged false false links owner lsa ≢ Err Checksum)
+not_first true owner lsa = (λ e. cc, λ e. cc)
+not_first false true lsa = (λ e. cc, λ e. cc)
+not_first false false lsa = (λ e. cc, λ e. cc)
+
+pub takes_room : (octets rest : List ℕ) (count : ℕ) → IsSummed octets → count ≡ link_count octets → rest ≡ drop 24 octets → HasLink count rest → TakesRoom octets
+takes_room octets rest count s is_count is_rest link =
+    let judged_so = lsa_at-judged octets ∙ ap (λ x. judged x (is_unsummed octets) (is_unfilled octets) (is_foreign octets) (lsa_of octets)) (le-ltb _ _ s.long)
+    ∙ ap (λ x. judged false x (is_unfilled octets) (is_foreign octets) (lsa_of octets)) (summed_well _ _ s.sums s.checksum) in
+    let not = not_first (is_unfilled octets) (is_foreign octets) (lsa_of octets) in
+    record {
+      long = λ e. not.0 (sym judged_so ∙ e);
+      summed = λ e. not.1 (sym judged_so ∙ e);
+      link = subst (λ n. HasLink n (drop 24 octets)) is_count (subst (HasLink count) is_rest link);
+    }
+
 -- what the reader of the links refuses is refused of the LSA
 pub Refuses-links : (octets : List ℕ) → IsSummed octets → (e : LsaRefusal) →
     Refuses e (ok_or (links_in (link_count octets) (drop 24 octets)) Links) → Refuses e (lsa_at octets)
@@ -153,6 +171,10 @@ links_refused octets rest count f s is_count is_rest h =
     Refuses-links octets s f
     (refused_alike f (ok_or (links_in count rest) Links) (ok_or (links_in (link_count octets) (drop 24 octets)) Links)
     (ap (λ n. ok_or (links_in n rest) Links) is_count ∙ ap (λ xs. ok_or (links_in (link_count octets) xs) Links) is_rest) h)
+
+pub error_same : {X : Type 0} (r : Result X LsaRefusal) (e f : LsaRefusal) → IsErrAnd r (λ g. g ≡ e) → r ≡ Err f → e ≡ f
+error_same (Ok x) e f h is = elim h [ ]
+error_same (Err g) e f h is = let same : g ≡ f = cc in sym h ∙ same
 
 pub Gives-err : {X Y : Type 0} (view : X → Y) (r : Result X LsaRefusal) (e : LsaRefusal) (said : Result Y LsaFault) →
     IsErrAnd r (λ f. f ≡ e) → Refuses e said → Gives view r said

@@ -1,5 +1,5 @@
 -- Links that are read one after another.
-use Rattle.std.proofs.Common.{◌≡◌, ◌++◌, ◌+◌, ◌-◌, ◌<◌, ◌∙◌, ◌∷◌, [], ℕ, suc, List, Option, Some, None, length, ap, sym, refl, append_assoc, append-nil, arith}
+use Rattle.std.proofs.Common.{IsSome, subst, zero, ◌≡◌, ◌++◌, ◌+◌, ◌-◌, ◌<◌, ◌∙◌, ◌∷◌, [], ℕ, suc, List, Option, Some, None, length, ap, sym, refl, append_assoc, append-nil, arith}
 use Rattle.std.specs.Option.{option_map, option_and_then}
 use Rattle.rcp_model.specs.LinkState.{RouterLink}
 use Rattle.rcp_model.specs.RouterLsas.{link_at, links_in}
@@ -42,3 +42,8 @@ links_in-more front count i [] e some = absurd (omega arith)
 links_in-more front count i (x ∷ xs) e some =
     let n : count - i ≡ 0 = omega arith in
     ap (λ n. with_front front (links_in n (x ∷ xs))) n
+
+-- where some link was read, the first one is whole
+pub first_whole : (i : ℕ) (rest octets : List ℕ) (front : RouterLink × List ℕ) → (i ≡ 0 → rest ≡ octets) → (0 < i → IsSome (link_at octets)) → link_at rest ≡ Some front → IsSome (link_at octets)
+first_whole zero rest octets front at_first later found = subst (λ (xs : List ℕ). IsSome (link_at xs)) (at_first refl) (subst IsSome (sym found) refl)
+first_whole (suc i) rest octets front at_first later found = later (omega arith)

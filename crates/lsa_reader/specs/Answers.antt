@@ -4,7 +4,7 @@ use Rattle.rcp_model.specs.declared.lsa_fault.LsaFault.{LsaFault}
 use Rattle.lsa_reader.specs.declared.lsa.LsaRefusal.{LsaRefusal}
 use Rattle.lsa_reader.specs.declared.lsa.LsaRefusal.TheVariants.{Fault, NoMemory}
 
--- a refusal names the fault that was said; no memory may be wanted at any time
+-- a refusal names the fault that was said; where memory may be wanted is said apart
 abbrev pub Refuses : {Y : Type 0} → LsaRefusal → Result Y LsaFault → Type 0
 Refuses (Fault f) said = said ≡ Err f
 Refuses NoMemory said = ⊤

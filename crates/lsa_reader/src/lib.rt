@@ -5,7 +5,7 @@
 //! one.
 //!
 //! A caller may rely on this: `read` answers the LSA that the octets say, exactly where none of four checks fails, and
-//! else the first fault in their order; the walk gives exactly the LSAs that the packet counts, as far as they are
+//! else the first fault in their order, and `NoMemory` only where the octets pass the first two checks and have a link; the walk gives exactly the LSAs that the packet counts, as far as they are
 //! whole; what is written is read again, with the checksum that was written.
 //!
 //! ```text
@@ -28,7 +28,9 @@ mod walking;
 mod writing;
 
 pub use laws::written_is_read;
-pub use lsa::{Lsa, LsaLink, LsaRefusal, POINT_TO_POINT, ROUTER_LSA, STUB, TRANSIT, VIRTUAL};
+pub use lsa::{
+    Lsa, LsaLink, LsaRefusal, POINT_TO_POINT, ROUTER_LSA, STUB, TRANSIT, VIRTUAL, number_of_fault,
+};
 pub use rcp_model::LsaFault;
 pub use reading::read;
 pub use walking::next_lsa;

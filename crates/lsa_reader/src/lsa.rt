@@ -1,4 +1,7 @@
 // What a router LSA says, and why none was read.
+ghost use Rattle.std.specs.Prelude.{◌≡◌};
+ghost use Rattle.lsa_reader.specs.Faults.{number_of_fault};
+
 use rcp_base::RouterId;
 use rcp_model::LsaFault;
 use std::marker::Model;
@@ -61,4 +64,11 @@ pub enum LsaRefusal {
     Fault(LsaFault),
     #[error("no memory")]
     NoMemory,
+}
+
+/// The number of a fault: 1 to 4, in the order of the checks.
+pub fn number_of_fault(fault: LsaFault) -> u8
+    ensures { result ≡ number_of_fault fault }
+{
+    fault as u8
 }

@@ -1,9 +1,11 @@
 // Router LSAs out of octets.
-ghost use Rattle.std.specs.Prelude.{◌≡◌, ◌≤◌, ◌+◌, length, Some, None, MatchOption, ok_or};
+ghost use Rattle.std.specs.Prelude.{◌≡◌, ◌≤◌, ◌+◌, length, Some, None, Err, MatchOption, ok_or};
 ghost use Rattle.std.specs.Int.{w16, w32};
 ghost use Rattle.rcp_base.specs.Octets.{number_at};
 ghost use Rattle.rcp_model.specs.RouterLsas.{link_at, links_in, lsa_at};
 ghost use Rattle.lsa_reader.specs.Answers.{Gives};
+ghost use Rattle.lsa_reader.specs.Room.{HasLink, TakesRoom};
+ghost use Rattle.lsa_reader.specs.declared.lsa.LsaRefusal.TheVariants as refusal;
 
 use crate::checksum::has_zero_sums;
 use crate::lsa::{Lsa, LsaLink, LsaRefusal};
@@ -18,8 +20,12 @@ const LINK_LEN: usize = 12;
 const NO_CHECKSUM: u16 = 0;
 
 /// Reads all of the octets as one router LSA. Its type and its length field are unread.
+///
+/// `NoMemory` only where there is no room for the links: the octets are long enough, their checksum fits, and they have
+/// a link.
 pub fn read(alloc: Global, bytes: &[u8]) -> Result<Lsa, LsaRefusal>
-    ensures { Gives (λ lsa. lsa) result (lsa_at bytes.now) }
+    ensures gives { Gives (λ lsa. lsa) result (lsa_at bytes.now) }
+    ensures no_memory { result ≡ Err refusal.NoMemory → TakesRoom bytes.now }
 {
     if bytes.len() < BEFORE_LINKS {
         return Err(LsaRefusal::Fault(LsaFault::Short));
@@ -46,7 +52,8 @@ pub fn read(alloc: Global, bytes: &[u8]) -> Result<Lsa, LsaRefusal>
 
 /// So many links, which have to be all of the octets.
 fn read_links(alloc: Global, count: u16, bytes: &[u8]) -> Result<Vec<LsaLink>, LsaRefusal>
-    ensures { Gives (λ links. links.items) result (ok_or (links_in count bytes.now) LsaFault.Links) }
+    ensures gives { Gives (λ links. links.items) result (ok_or (links_in count bytes.now) LsaFault.Links) }
+    ensures no_memory { result ≡ Err refusal.NoMemory → HasLink count bytes.now }
 {
     let mut links = Vec::new(alloc);
     let mut rest = bytes;

@@ -55,6 +55,24 @@ fn what_is_written_is_read_with_its_sequence_and_type(rt: HostRuntime) -> Result
 }
 
 #[test]
+fn an_lsa_of_256_links_is_read(rt: HostRuntime) -> Result<(), Fail> {
+    let alloc = rt.alloc();
+    let mut written = sample(alloc, 1, STUB)?;
+    let link = LsaLink {
+        id: 1,
+        kind: STUB,
+        metric: 7,
+    };
+    written.links = vec![in alloc; link; 256]?;
+    let mut out = [0; 3096];
+    assert_eq!(rt; write(&written, &mut out), Some(3096));
+    let lsa = read(alloc, &out)?;
+    assert_eq!(rt; lsa.links.as_slice(), written.links.as_slice());
+    assert_eq!(rt; number_of_fault(LsaFault::Owner), 4);
+    Ok(())
+}
+
+#[test]
 fn no_room_writes_nothing(rt: HostRuntime) -> Result<(), Fail> {
     let mut out = [7; 35];
     assert_eq!(rt; write(&sample(rt.alloc(), 1, STUB)?, &mut out), None);
