@@ -6,7 +6,7 @@ use Rattle.std.proofs.lemmas.List.Kept.{AllPairs-cons}
 use Rattle.rcp_model.proofs.MemberLemmas.{Contains-head, Contains-tail, Contains-cases, Contains-none}
 use Rattle.rcp_model.proofs.GraphLemmas.{All-from_members, apart_within, routers_at}
 use Rattle.rcp_model.proofs.WalkLemmas.{Walk-then, Walk-edge, cost_is, cost-itself}
-use Rattle.rcp_model.specs.declared.event.Edge.{Edge}
+use Rattle.rcp_base.specs.declared.names.Edge.{Edge}
 use Rattle.rcp_model.specs.Costs.{Walk, stay, step, IsCost, cost}
 use Rattle.rcp_model.specs.Graphs.{IsGraph, routers_in}
 

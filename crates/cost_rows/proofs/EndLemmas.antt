@@ -4,7 +4,7 @@ use Rattle.std.specs.List.Sorted.{IsStrictlyIncreasing}
 use Rattle.std.proofs.lemmas.List.Elements.{Contains-append_left, Contains-append_right, Contains-append_cases}
 use Rattle.rcp_model.proofs.MemberLemmas.{Contains-head, Contains-tail, Contains-cases, Contains-none}
 use Rattle.rcp_model.proofs.GraphLemmas.{apart_within, routers_at}
-use Rattle.rcp_model.specs.declared.event.Edge.{Edge}
+use Rattle.rcp_base.specs.declared.names.Edge.{Edge}
 use Rattle.rcp_model.specs.Graphs.{IsGraph, routers_in}
 use Rattle.cost_rows.specs.Search.{ends_of, AreNames}
 use Rattle.cost_rows.proofs.NameLemmas.{apart}

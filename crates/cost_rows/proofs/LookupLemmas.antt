@@ -5,7 +5,7 @@ use Rattle.std.specs.List.Sorted.{IsPartitionedBy}
 use Rattle.std.proofs.lemmas.Bool.{eqb-false}
 use Rattle.std.proofs.lemmas.Bool.Decides.{nat_tests}
 use Rattle.rcp_model.proofs.MemberLemmas.{Contains-head, Contains-tail}
-use Rattle.rcp_model.specs.Maps.{get_at}
+use Rattle.rcp_base.specs.Maps.{get_at}
 use Rattle.rcp_model.specs.LinkState.{same_number}
 
 pub routers_partition : (pairs : List (ℕ × ℕ)) → AllPairs (λ (a b : ℕ × ℕ). a.0 < b.0) pairs → (v : ℕ) → IsPartitionedBy (λ (pair : ℕ × ℕ). nat_lt pair.0 v) pairs

@@ -8,7 +8,7 @@ use Rattle.std.proofs.lemmas.List.Elements.{Contains-get_or}
 use Rattle.std.proofs.lemmas.Option.{slice_get_within, get_or_from_slice_get}
 use Rattle.rcp_model.proofs.MemberLemmas.{Contains-none, Contains-cases}
 use Rattle.rcp_model.proofs.GraphLemmas.{IsRising, before-itself, before-chain, before-total, before-not_back, same-edge, same-itself, rising-head, rising-tail}
-use Rattle.rcp_model.specs.declared.event.Edge.{Edge}
+use Rattle.rcp_base.specs.declared.names.Edge.{Edge}
 use Rattle.rcp_model.specs.Edges.{same_edge, is_edge_before, include_edge}
 use Rattle.rcp_model.specs.Graphs.{exclude_edge, edges_from}
 

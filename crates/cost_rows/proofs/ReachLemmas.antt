@@ -7,8 +7,8 @@ use Rattle.std.proofs.lemmas.Bool.{false≢true}
 use Rattle.std.proofs.lemmas.Option.{slice_get_within, slice_get-get_or, slice_get-map, get_or_from_slice_get, none-some, same_Some}
 use Rattle.rcp_base.specs.declared.names.Member.{Member}
 use Rattle.rcp_model.proofs.MemberLemmas.{Contains-none}
-use Rattle.rcp_model.specs.declared.event.Edge.{Edge}
-use Rattle.rcp_model.specs.Maps.{get_at}
+use Rattle.rcp_base.specs.declared.names.Edge.{Edge}
+use Rattle.rcp_base.specs.Maps.{get_at}
 use Rattle.rcp_model.specs.LinkState.{same_number}
 use Rattle.rcp_model.specs.RouteServer.{router_at, cost_between, slot_cost}
 use Rattle.rcp_model.specs.Graphs.{IsGraph}

@@ -4,8 +4,8 @@ use Rattle.std.proofs.lemmas.Bool.{false≢true}
 use Rattle.std.proofs.lemmas.List.Kept.{AllPairs-from_increasing, AllPairs-cons}
 use Rattle.rcp_model.proofs.MemberLemmas.{Contains-head, Contains-tail, Contains-cases, Contains-none}
 use Rattle.rcp_model.proofs.GraphLemmas.{All-from_members}
-use Rattle.rcp_model.specs.declared.event.Edge.{Edge}
-use Rattle.rcp_model.specs.Maps.{get_at}
+use Rattle.rcp_base.specs.declared.names.Edge.{Edge}
+use Rattle.rcp_base.specs.Maps.{get_at}
 use Rattle.rcp_model.specs.LinkState.{same_number}
 use Rattle.rcp_model.specs.Graphs.{IsCostRow}
 use Rattle.cost_rows.specs.Search.{found_at, reached, IsFound, AreNames}

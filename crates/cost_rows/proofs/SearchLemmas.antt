@@ -9,7 +9,7 @@ use Rattle.std.proofs.lemmas.List.Sorted.{Contains-permutation, length_permutati
 use Rattle.std.proofs.lemmas.Option.{slice_get_within, get_or_from_slice_get}
 use Rattle.rcp_model.proofs.MemberLemmas.{Contains-head, Contains-tail, Contains-cases, Contains-none, filter_member, member_of_filter}
 use Rattle.rcp_model.proofs.WalkLemmas.{Within, Walk-then, Walk-edge, IsCost-unique, IsCost-from_settled, cost_is}
-use Rattle.rcp_model.specs.declared.event.Edge.{Edge}
+use Rattle.rcp_base.specs.declared.names.Edge.{Edge}
 use Rattle.rcp_model.specs.Costs.{Walk, stay, cost}
 use Rattle.rcp_model.specs.Graphs.{IsGraph, edges_from}
 use Rattle.cost_rows.specs.Search.{found_at, counted, found_count, weight, nothing_found, Waiting, waits, left, IsSearch, IsLowered, IsRelaxed, IsFound, AreNames}

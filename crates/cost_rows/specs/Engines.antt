@@ -1,7 +1,7 @@
 -- Engines of costs: the graph before one edge came or went, and the pairs whose cost changed.
 use Rattle.std.specs.Prelude.{◌≢◌, ℕ, Bool, true, false, ◌&&◌, ◌||◌, ◌==◌, ◌↔◌, List, AllPairs, Contains, IsTrue, Option, Some, nat_lt}
 use Rattle.rcp_base.specs.declared.names.Member.{Member}
-use Rattle.rcp_model.specs.declared.event.Edge.{Edge}
+use Rattle.rcp_base.specs.declared.names.Edge.{Edge}
 use Rattle.rcp_model.specs.Edges.{include_edge}
 use Rattle.rcp_model.specs.Graphs.{exclude_edge}
 use Rattle.rcp_model.specs.RouteServer.{router_at, cost_between}

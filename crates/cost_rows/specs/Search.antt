@@ -3,7 +3,7 @@ use Rattle.std.specs.Prelude.{◌≡◌, ℕ, ◌+◌, ◌*◌, ◌^◌, ◌≤�
 use Rattle.std.specs.List.{AllZip}
 use Rattle.std.specs.List.Sorted.{IsStrictlyIncreasing}
 use Rattle.std.specs.declared.cmp.Reverse.{Reverse}
-use Rattle.rcp_model.specs.declared.event.Edge.{Edge}
+use Rattle.rcp_base.specs.declared.names.Edge.{Edge}
 use Rattle.rcp_model.specs.Costs.{Walk, cost}
 use Rattle.rcp_model.specs.Graphs.{edges_from}
 

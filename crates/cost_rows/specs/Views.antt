@@ -1,8 +1,8 @@
 -- Views: a graph, the members of a roster, and what each member reaches at which cost.
 use Rattle.std.specs.Prelude.{◌≡◌, ℕ, ◌<◌, ◌↔◌, List, length, map, slice_get, slice_index, slice_index_or, All, AllPairs, Contains, IsTrue, Option, Some, None, IsSome}
 use Rattle.rcp_base.specs.declared.names.Member.{Member}
-use Rattle.rcp_model.specs.declared.event.Edge.{Edge}
-use Rattle.rcp_model.specs.Maps.{get_at}
+use Rattle.rcp_base.specs.declared.names.Edge.{Edge}
+use Rattle.rcp_base.specs.Maps.{get_at}
 use Rattle.rcp_model.specs.LinkState.{same_number}
 use Rattle.rcp_model.specs.RouteServer.{slot_cost}
 use Rattle.rcp_model.specs.Decision.{is_lower_pair}

@@ -11,7 +11,7 @@ use rcp_model::Edge;
 pub trait CostEngine {
     ghost use Rattle.std.specs.Prelude.{◌≡◌, ℕ, Bool, true, false, ◌↔◌, List, Option, Some, Err, Contains, IfOk, OnOk, OnErr};
     ghost use Rattle.rcp_base.specs.declared.names.Member.{Member};
-    ghost use Rattle.rcp_model.specs.declared.event.Edge.{Edge};
+    ghost use Rattle.rcp_base.specs.declared.names.Edge.{Edge};
     ghost use Rattle.rcp_model.specs.Graphs.{IsGraph};
     ghost use Rattle.cost_rows.specs.Engines.{graph_before, cost_from, AreChanges};
 

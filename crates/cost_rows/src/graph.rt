@@ -18,7 +18,7 @@ pub struct Graph {
 
 impl Model for Graph {
     ghost use Rattle.std.specs.Prelude.{List};
-    ghost use Rattle.rcp_model.specs.declared.event.Edge.{Edge};
+    ghost use Rattle.rcp_base.specs.declared.names.Edge.{Edge};
     ghost use Rattle.rcp_model.specs.Graphs.{IsGraph};
 
     ghost Value = { List Edge };

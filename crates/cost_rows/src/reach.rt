@@ -3,7 +3,7 @@
 ghost use Rattle.std.specs.Prelude.{◌≡◌, ℕ, length, slice_get, map, All, Some, None, IfOk, OnOk, IfSome, ◌<◌, ◌-◌, ◌^◌};
 ghost use Rattle.std.specs.List.{AllZip};
 ghost use Rattle.rcp_model.specs.Graphs.{AreMembers, IsGraph};
-ghost use Rattle.rcp_model.specs.Maps.{get_at};
+ghost use Rattle.rcp_base.specs.Maps.{get_at};
 ghost use Rattle.rcp_model.specs.LinkState.{same_number};
 ghost use Rattle.cost_rows.specs.Views.{cost_at, IsRanking};
 ghost use Rattle.cost_rows.specs.Keys.{AreKeys, slots_of};

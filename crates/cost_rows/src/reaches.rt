@@ -2,10 +2,10 @@
 
 ghost use Rattle.std.specs.Prelude.{◌≡◌, ℕ, ◌<◌, ◌-◌, ◌^◌, List, length, map, slice_index_or, All, Contains, Some, None, IfOk, IfSome};
 ghost use Rattle.std.specs.List.Sorted.{IsStrictlyIncreasing};
-ghost use Rattle.rcp_model.specs.declared.event.Edge.{Edge};
+ghost use Rattle.rcp_base.specs.declared.names.Edge.{Edge};
 ghost use Rattle.rcp_model.specs.RouteServer.{router_at};
 ghost use Rattle.rcp_model.specs.Graphs.{AreMembers, IsGraph};
-ghost use Rattle.rcp_model.specs.Maps.{get_at};
+ghost use Rattle.rcp_base.specs.Maps.{get_at};
 ghost use Rattle.rcp_model.specs.LinkState.{same_number};
 ghost use Rattle.cost_rows.specs.Engines.{cost_from};
 ghost use Rattle.cost_rows.specs.Search.{AreIndexed, ArePlaces};

@@ -1,7 +1,7 @@
 //! Rows: the costs from one router as they are handed over.
 
 ghost use Rattle.std.specs.Prelude.{◌≡◌, ℕ, ◌<◌, AllPairs};
-ghost use Rattle.rcp_model.specs.Maps.{get_at};
+ghost use Rattle.rcp_base.specs.Maps.{get_at};
 ghost use Rattle.rcp_model.specs.LinkState.{same_number};
 
 use rcp_base::RouterId;

@@ -7,7 +7,7 @@ use Rattle.std.proofs.lemmas.Bool.{cases_Bool}
 use Rattle.std.proofs.lemmas.List.{append-nil, length-take}
 use Rattle.std.proofs.lemmas.List.Elements.{recursion_from_All}
 use Rattle.rcp_base.specs.IpPrefix.{IpPrefix, IsPrefix, prefix_octets, octets_for}
-use Rattle.rcp_model.specs.Maps.{get_at, same_prefix, is_before}
+use Rattle.rcp_base.specs.Maps.{get_at, same_prefix, is_before}
 use Rattle.rcp_model.specs.Messages.{IsMessage}
 use Rattle.rcp_model.specs.Updates.{Table, after_message, after_messages}
 use Rattle.rcp_model.specs.Cells.{Cell, IsSendable, value_after, CarriesAll}

@@ -7,7 +7,7 @@ use Rattle.std.proofs.lemmas.List.Elements.{All-from_recursion}
 use Rattle.std.proofs.lemmas.List.Kept.{AllPairs-cons}
 use Rattle.std.proofs.lemmas.Slice.Eq.{bytes_eq-Decides}
 use Rattle.rcp_base.specs.IpPrefix.{IpPrefix, IsPrefix}
-use Rattle.rcp_model.specs.Maps.{get_at, same_prefix, is_before, is_among}
+use Rattle.rcp_base.specs.Maps.{get_at, same_prefix, is_before, is_among}
 use Rattle.rcp_model.specs.Rising.{IsBelow, IsRising}
 use Rattle.rcp_model.specs.Updates.{Table}
 use Rattle.rcp_model.specs.Cells.{Cell, IsSendable, AreCells, value_after}

@@ -5,13 +5,13 @@ use Rattle.std.proofs.lemmas.List.{append-nil}
 use Rattle.rcp_base.specs.declared.kinds.Kind.{Kind}
 use Rattle.rcp_base.specs.declared.kinds.Kind.TheVariants as kind
 use Rattle.rcp_base.specs.Feed.{FeedRecord, OutRecord, begins}
-use Rattle.rcp_model.specs.Rosters.{RosterOf}
-use Rattle.rcp_model.specs.Maps.{get_at, same_prefix}
+use Rattle.rcp_base.specs.Roster.{RosterOf}
+use Rattle.rcp_base.specs.Maps.{get_at, same_prefix}
 use Rattle.rcp_model.specs.Updates.{replay}
 use Rattle.rcp_model.specs.LinkState.{same_number}
 use Rattle.rcp_model.specs.RouteServer.{announced_at, offer}
 use Rattle.rcp_model.specs.Sessions.{SessionState}
-use Rattle.rcp_model.specs.Telling.{AreOctets}
+use Rattle.rcp_base.specs.Octets.{AreOctets}
 use Rattle.feed_meaning.specs.Platform.{Platform, domain_of, fresh, slot_of_session}
 use Rattle.feed_meaning.specs.OutRecords.{sent_to}
 use Rattle.feed_meaning.specs.SessionTurns.{Turn, after_turn, after_turns, noted, record_turns, turns_act}

@@ -5,7 +5,7 @@ use Rattle.std.proofs.lemmas.Bool.{cases_Bool}
 use Rattle.std.proofs.lemmas.List.{append-nil}
 use Rattle.std.proofs.lemmas.List.Folds.{concat-append}
 use Rattle.rcp_base.specs.IpPrefix.{IpPrefix}
-use Rattle.rcp_model.specs.Maps.{get_at, set_at, same_prefix, is_among}
+use Rattle.rcp_base.specs.Maps.{get_at, set_at, same_prefix, is_among}
 use Rattle.rcp_model.specs.Messages.{IsMessage, messages_in}
 use Rattle.rcp_model.specs.Updates.{Table, after_messages, replay}
 use Rattle.rcp_model.specs.Cells.{Cell, Carries, value_after}

@@ -8,11 +8,12 @@ use Rattle.std.proofs.lemmas.List.Elements.{All-nil}
 use Rattle.rcp_base.specs.declared.kinds.Kind.{Kind}
 use Rattle.rcp_base.specs.declared.kinds.Kind.TheVariants as kind
 use Rattle.rcp_base.specs.Feed.{FeedRecord, OutRecord, begins, moment_of}
-use Rattle.rcp_model.specs.Rosters.{RosterOf}
-use Rattle.rcp_model.specs.Maps.{get_at, set_at}
+use Rattle.rcp_base.specs.Roster.{RosterOf}
+use Rattle.rcp_base.specs.Maps.{get_at, set_at}
 use Rattle.rcp_model.specs.LinkState.{same_number}
 use Rattle.rcp_model.specs.Sessions.{Doing, Ending, Phase, OpenSent, Claiming, Negotiated, SessionState, Answer, Octets, Seat, Moment, End, later_of, answer, begun, begun_established, is_closed, seat_taken, stepped, then_also, seat_of, slot_in}
-use Rattle.rcp_model.specs.Telling.{IsTold, AreOctets}
+use Rattle.rcp_base.specs.Octets.{AreOctets}
+use Rattle.rcp_model.specs.Telling.{IsTold}
 use Rattle.feed_meaning.specs.Platform.{Connections, Platform}
 use Rattle.feed_meaning.specs.SessionTurns.{is_slot, is_free, Turn, turn, simple_turn, claim_turn, octets_turn, connection_at, ready_turn, slot_named, turns_of, after_turn, after_turns, turn_output, noted, record_turns}
 use Rattle.rcp_base.proofs.MapLemmas.{get_at-set_at_other}

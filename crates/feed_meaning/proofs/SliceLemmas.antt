@@ -5,9 +5,9 @@ use Rattle.rcp_base.specs.IpPrefix.{IpPrefix}
 use Rattle.rcp_base.specs.declared.kinds.Kind.{Kind}
 use Rattle.rcp_base.specs.declared.kinds.Kind.TheVariants as kind
 use Rattle.rcp_base.specs.Feed.{FeedRecord}
-use Rattle.rcp_model.specs.Maps.{same_prefix}
+use Rattle.rcp_base.specs.Maps.{same_prefix}
 use Rattle.rcp_model.specs.Rising.{IsBelow, IsRising}
-use Rattle.rcp_model.specs.Rosters.{RosterOf}
+use Rattle.rcp_base.specs.Roster.{RosterOf}
 use Rattle.rcp_model.specs.Edges.{edges_of}
 use Rattle.rcp_model.specs.RouteServer.{Domain, Server, Links, Work, after}
 use Rattle.feed_meaning.specs.LinkStream.{LinkStream, Reading, Lost}

@@ -6,14 +6,15 @@ use Rattle.std.proofs.lemmas.Bool.{cases_Bool, eqb-true, eq-eqb, both_ways}
 use Rattle.std.proofs.lemmas.List.{append-nil}
 use Rattle.std.proofs.lemmas.List.Folds.{concat-append}
 use Rattle.rcp_base.specs.Feed.{OutRecord}
-use Rattle.rcp_model.specs.Maps.{get_at, set_at, same_prefix}
+use Rattle.rcp_base.specs.Maps.{get_at, set_at, same_prefix}
 use Rattle.rcp_model.specs.Rising.{IsRising}
 use Rattle.rcp_model.specs.Messages.{IsMessage}
 use Rattle.rcp_model.specs.Updates.{Table, Sections, sections_of, after_message, after_messages}
 use Rattle.rcp_model.specs.LinkState.{same_number}
 use Rattle.rcp_model.specs.RouteServer.{Server, table_of, after_all}
 use Rattle.rcp_model.specs.Sessions.{Ending, Phase, OpenSent, Claiming, OpenConfirm, Established, Closed, SessionState, is_closed, seat_of, slot_in}
-use Rattle.rcp_model.specs.Telling.{IsTold, AreOctets}
+use Rattle.rcp_base.specs.Octets.{AreOctets}
+use Rattle.rcp_model.specs.Telling.{IsTold}
 use Rattle.feed_meaning.specs.Platform.{Connections, Platform, domain_of}
 use Rattle.feed_meaning.specs.SessionTurns.{Turn, server_event, seat_events, turn_events, if_open, after_turn, turn_output}
 use Rattle.feed_meaning.specs.OutRecords.{MESSAGE, messages_to, end_record, sent_to}

@@ -7,7 +7,7 @@ use Rattle.rcp_base.specs.IpPrefix.{IpPrefix, IsPrefix}
 use Rattle.rcp_base.specs.declared.kinds.Kind.{Kind}
 use Rattle.rcp_base.specs.declared.kinds.Kind.TheVariants as kind
 use Rattle.rcp_base.specs.Feed.{OutRecord}
-use Rattle.rcp_model.specs.Maps.{get_at, same_prefix, is_among}
+use Rattle.rcp_base.specs.Maps.{get_at, same_prefix, is_among}
 use Rattle.rcp_model.specs.Rising.{IsRising}
 use Rattle.rcp_model.specs.Updates.{Table}
 use Rattle.rcp_model.specs.LinkState.{same_number}

@@ -2,7 +2,7 @@
 use Rattle.std.specs.Prelude.{ℕ, ◌-◌, ◌^◌, ◌&&◌, ◌==◌, List, [], ◌∷◌, ◌++◌, length, map, min, Option, Some, None, if◌then◌else◌}
 use Rattle.std.specs.Int.{w64, to_be_bytes}
 use Rattle.rcp_base.specs.Feed.{OutRecord}
-use Rattle.rcp_model.specs.Maps.{include_all}
+use Rattle.rcp_base.specs.Maps.{include_all}
 use Rattle.rcp_model.specs.Sessions.{Reason, Faulted, Received, Ended, SeatTaken, Ending}
 use Rattle.rcp_model.specs.RouteServer.{Server, announced_prefixes}
 

@@ -2,7 +2,7 @@
 use Rattle.std.specs.Prelude.{◌≡◌, ℕ, ◌<◌, true, false, List, [], ◌∷◌, ◌++◌, Some, if◌then◌else◌}
 use Rattle.rcp_base.specs.IpPrefix.{IpPrefix}
 use Rattle.rcp_base.specs.Feed.{FeedRecord, OutRecord, begins}
-use Rattle.rcp_model.specs.Rosters.{RosterOf}
+use Rattle.rcp_base.specs.Roster.{RosterOf}
 use Rattle.rcp_model.specs.Updates.{replay}
 use Rattle.rcp_model.specs.RouteServer.{is_pending, announced_at, offer}
 use Rattle.feed_meaning.specs.Platform.{Platform, domain_of, fresh, slot_on, Acted}

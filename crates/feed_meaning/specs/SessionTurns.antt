@@ -5,8 +5,8 @@ use Rattle.std.specs.Int.{w32, from_be_bytes}
 use Rattle.rcp_base.specs.declared.kinds.Kind.{Kind}
 use Rattle.rcp_base.specs.declared.kinds.Kind.TheVariants as kind
 use Rattle.rcp_base.specs.Feed.{FeedRecord, OutRecord, is_time, moment_of}
-use Rattle.rcp_model.specs.Rosters.{RosterOf, slot_from}
-use Rattle.rcp_model.specs.Maps.{get_at, set_at}
+use Rattle.rcp_base.specs.Roster.{RosterOf, slot_from}
+use Rattle.rcp_base.specs.Maps.{get_at, set_at}
 use Rattle.rcp_model.specs.LinkState.{same_number}
 use Rattle.rcp_model.specs.Sessions.{Ending, SessionEvent, Announce, Withdraw, Doing, seat_of, SessionState, Answer, Input, Octets, Seat, Moment, End, answer, begun, begun_established, is_closed, seat_taken, stepped, then_also}
 use Rattle.rcp_model.specs.Sessions as session

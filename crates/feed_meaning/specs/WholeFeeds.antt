@@ -7,7 +7,7 @@ use Rattle.rcp_base.specs.declared.kinds.FeedWhy.{FeedWhy}
 use Rattle.rcp_base.specs.declared.kinds.FeedWhy.TheVariants as why
 use Rattle.rcp_base.specs.Feed.{FeedRecord, Feed, before_feeds, feed_of, out_octets}
 use Rattle.rcp_base.specs.Roster.{FaultyLine}
-use Rattle.rcp_model.specs.Rosters.{RosterOf, roster_in}
+use Rattle.rcp_base.specs.Roster.{RosterOf, roster_of}
 use Rattle.feed_meaning.specs.Platform.{fresh}
 use Rattle.feed_meaning.specs.SessionTurns.{slot_named}
 use Rattle.feed_meaning.specs.Work.{shard_in}
@@ -75,7 +75,7 @@ module _ (faults : RosterOf → FurtherFault) where
   -- what a feed comes to whose first record has this number
   abbrev pub meaning_of : ℕ → Feed → List FeedRecord → FeedMeaning
   meaning_of number feed [] = record { roster = None; items = []; end = end_at number feed.fault; left = feed.left }
-  meaning_of number feed (first ∷ items) = with_roster feed number items (roster_in first.body)
+  meaning_of number feed (first ∷ items) = with_roster feed number items (roster_of first.body)
 
   -- what octets come to as a feed, with these faults besides
   unfoldable pub meaning_by : List ℕ → FeedMeaning

@@ -6,7 +6,7 @@ use Rattle.rcp_base.specs.IpPrefix.{IpPrefix, shard_of_prefix}
 use Rattle.rcp_base.specs.declared.kinds.Kind.{Kind}
 use Rattle.rcp_base.specs.declared.kinds.Kind.TheVariants as kind
 use Rattle.rcp_base.specs.Feed.{OutRecord}
-use Rattle.rcp_model.specs.Maps.{get_at, same_prefix}
+use Rattle.rcp_base.specs.Maps.{get_at, same_prefix}
 use Rattle.rcp_model.specs.Updates.{Table, update_octets}
 use Rattle.rcp_model.specs.Cells.{Cell}
 use Rattle.rcp_model.specs.Sessions.{slot_in}

@@ -3,7 +3,7 @@
 ghost use Rattle.std.specs.List.{AllByRecursion, All};
 ghost use Rattle.std.specs.Prelude.{◌<◌, List};
 ghost use Rattle.rcp_base.specs.Feed.{FeedRecord};
-ghost use Rattle.rcp_model.specs.Rosters.{RosterOf};
+ghost use Rattle.rcp_base.specs.Roster.{RosterOf};
 ghost use Rattle.feed_meaning.specs.Runs.{NumbersRise, Headline};
 
 /// After every list of records in which the numbers of connections rise, for each connected router and each prefix that

@@ -4,7 +4,7 @@ ghost use Rattle.std.specs.Prelude.{◌≡◌, ℕ, suc, List, [], ◌∷◌, ta
 ghost use Rattle.rcp_base.specs.IpPrefix.{IpPrefix};
 ghost use Rattle.rcp_base.specs.Feed.{FeedRecord};
 ghost use Rattle.rcp_model.specs.Rising.{IsRising};
-ghost use Rattle.rcp_model.specs.Rosters.{RosterOf};
+ghost use Rattle.rcp_base.specs.Roster.{RosterOf};
 ghost use Rattle.rcp_model.specs.RouteServer.{Domain, Server, Work, after};
 ghost use Rattle.feed_meaning.specs.Platform.{fresh};
 ghost use Rattle.feed_meaning.specs.Work.{pending_in};

@@ -1,6 +1,6 @@
 -- The links of routers, collected one router after another.
 use Rattle.std.proofs.Common.{◌≡◌, ℕ, List, [], ◌∷◌, ◌++◌, refl, sym, ap, ◌∙◌, append-nil}
-use Rattle.rcp_model.specs.declared.event.Edge.{Edge}
+use Rattle.rcp_base.specs.declared.names.Edge.{Edge}
 use Rattle.rcp_model.specs.LinkState.{RouterLink, Kept}
 use Rattle.lsdb.specs.Links.{links_in, links_from}
 

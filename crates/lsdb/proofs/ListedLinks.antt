@@ -3,7 +3,7 @@ use Rattle.std.proofs.Common.{ℤ, not, ◌+◌, ◌≡◌, ℕ, ◌≤◌, Bool
 use Rattle.std.proofs.lemmas.Bool.{false≢true}
 use Rattle.std.proofs.lemmas.Bool.Decides.{nat_tests}
 use Rattle.std.proofs.lemmas.List.Elements.{Contains-append_left, Contains-append_right, Contains-append_cases}
-use Rattle.rcp_model.specs.declared.event.Edge.{Edge}
+use Rattle.rcp_base.specs.declared.names.Edge.{Edge}
 use Rattle.rcp_base.specs.Maps.{get_at, put_at, without}
 use Rattle.rcp_model.specs.LinkState.{LsaHeader, RouterLink, RouterLsa, Kept, LinkState, same_number, kept_of, is_more_recent, Installation, Newer, Same, Older, Flushed, Dropped, kept_after, installation, installed, aged}
 use Rattle.rcp_model.specs.Edges.{metric_to, learned, edges_of}

@@ -1,6 +1,6 @@
 -- What an edge of the link state is, by the links of the routers at its ends (RFC 2328 sections 12.4.1.1 and 16.1).
 use Rattle.std.specs.Prelude.{◌≡◌, ℕ, ◌≤◌, Contains, Some, IfSome}
-use Rattle.rcp_model.specs.declared.event.Edge.{Edge}
+use Rattle.rcp_base.specs.declared.names.Edge.{Edge}
 use Rattle.rcp_model.specs.LinkState.{Kept, LinkState, kept_of}
 use Rattle.rcp_model.specs.Edges.{POINT_TO_POINT}
 use Rattle.lsdb.specs.Databases.{IsOnce}

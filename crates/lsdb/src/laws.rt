@@ -1,6 +1,6 @@
 // Laws of link states and their edges. Each is the contract of a function that does nothing.
 ghost use Rattle.std.specs.Prelude.{◌≡◌, ◌⊎◌, ◌↔◌, ℕ, List, Contains, true, false};
-ghost use Rattle.rcp_model.specs.declared.event.Edge.{Edge};
+ghost use Rattle.rcp_base.specs.declared.names.Edge.{Edge};
 ghost use Rattle.rcp_model.specs.LinkState.{LsaHeader, RouterLsa, LinkState, is_more_recent, installed, aged};
 ghost use Rattle.rcp_model.specs.Edges.{edges_of};
 ghost use Rattle.lsdb.specs.Databases.{empty};

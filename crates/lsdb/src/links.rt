@@ -1,6 +1,6 @@
 // The edges that instances tell of (RFC 2328 section 16.1).
 ghost use Rattle.std.specs.Prelude.{◌≡◌, ℕ, ◌++◌, filter, Contains, IfOk, OnOk};
-ghost use Rattle.rcp_model.specs.declared.event.Edge.{Edge};
+ghost use Rattle.rcp_base.specs.declared.names.Edge.{Edge};
 ghost use Rattle.lsdb.specs.Links.{links_from, least_between, is_two_way as two_way, IsInOrder, IsRising, AreEdges};
 
 use lsa_reader::{LsaLink, POINT_TO_POINT};

@@ -3,7 +3,7 @@ use Rattle.std.specs.Prelude.{ℕ, ◌+◌, List, [], ◌∷◌, ◌++◌, repli
 use Rattle.rcp_model.specs.Messages.{marker}
 use Rattle.rcp_model.specs.LinkState.{LinkState, Kept, RouterLink}
 use Rattle.rcp_base.specs.Feed.{FeedRecord, OutRecord}
-use Rattle.rcp_model.specs.Rosters.{RosterOf}
+use Rattle.rcp_base.specs.Roster.{RosterOf}
 use Rattle.meaning_cases.specs.Examples.{A, B, C, member, link, linked, ready, heard_on, drain_record, announcement_by, tie, tie_output}
 
 -- ---- what is put out

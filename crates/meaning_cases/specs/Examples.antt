@@ -3,9 +3,9 @@ use Rattle.std.specs.Prelude.{ℕ, List, [], ◌∷◌, ◌++◌}
 use Rattle.rcp_base.specs.declared.names.Member.{Member}
 use Rattle.rcp_base.specs.declared.kinds.Kind.TheVariants.{Ready, Octets, Drain}
 use Rattle.rcp_base.specs.Feed.{FeedRecord, OutRecord}
-use Rattle.rcp_model.specs.declared.event.Edge.{Edge}
+use Rattle.rcp_base.specs.declared.names.Edge.{Edge}
 use Rattle.rcp_model.specs.Messages.{marker}
-use Rattle.rcp_model.specs.Rosters.{RosterOf}
+use Rattle.rcp_base.specs.Roster.{RosterOf}
 
 -- routers 10.0.0.1, 10.0.0.2 and 10.0.0.3, whose BGP Identifiers are their router IDs
 abbrev pub A : ℕ

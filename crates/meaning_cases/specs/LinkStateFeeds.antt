@@ -2,7 +2,7 @@
 use Rattle.std.specs.Prelude.{ℕ, List, [], ◌∷◌, ◌++◌, replicate, take, drop}
 use Rattle.rcp_base.specs.declared.kinds.Kind.TheVariants.{Links, Slice}
 use Rattle.rcp_base.specs.Feed.{FeedRecord, OutRecord}
-use Rattle.rcp_model.specs.Rosters.{RosterOf}
+use Rattle.rcp_base.specs.Roster.{RosterOf}
 use Rattle.meaning_cases.specs.Examples.{linked, ready, heard_on, drain_record, announcement_by, tie_output}
 use Rattle.meaning_cases.specs.Cases.{update_to, summary_of}
 

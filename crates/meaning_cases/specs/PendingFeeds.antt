@@ -2,7 +2,7 @@
 use Rattle.std.specs.Prelude.{ℕ, List, [], ◌∷◌, ◌++◌}
 use Rattle.rcp_base.specs.IpPrefix.{IpPrefix}
 use Rattle.rcp_base.specs.Feed.{FeedRecord, OutRecord}
-use Rattle.rcp_model.specs.Rosters.{RosterOf}
+use Rattle.rcp_base.specs.Roster.{RosterOf}
 use Rattle.meaning_cases.specs.Examples.{A, C, member, ready, heard_on, drain_record, announcement_by}
 use Rattle.meaning_cases.specs.Cases.{update_to, summary_of}
 use Rattle.meaning_cases.specs.LinkStateFeeds.{unlinked, link_state, slice_of, all_ready, packet_of, lsa_of, link_to, lsa_of_A, lsa_of_B, lsa_of_C, newer_lsa_of_A, announcement_of_both, announcement_of_second}

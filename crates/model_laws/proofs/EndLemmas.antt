@@ -1,11 +1,11 @@
 -- A session sends one NOTIFICATION, by its end and last, where a fault or a taken seat ends it.
 use Rattle.std.proofs.Common.{◌≡◌, ℕ, ◌/◌, Bool, true, false, cond, inl, inr, List, [], ◌∷◌, ◌++◌, drop, Option, Some, None, refl, sym, ap, ◌∙◌, subst, eqb, append_assoc}
 use Rattle.std.specs.Prelude.{is_some}
-use Rattle.std.specs.Int.{w16}
 use Rattle.std.proofs.lemmas.Bool.{cases_Bool, cond_both, both_ways}
+use Rattle.rcp_model.specs.Attributes.{number_width}
 use Rattle.rcp_model.specs.Messages.{FaultOf, fault, type_field, messages_in, rest_of}
 use Rattle.rcp_model.specs.Updates.{update_fault}
-use Rattle.rcp_model.specs.Rosters.{RosterOf}
+use Rattle.rcp_base.specs.Roster.{RosterOf}
 use Rattle.rcp_model.specs.Sessions.{Peering, Phase, OpenSent, Claiming, OpenConfirm, Established, Closed, is_closed, reads, SessionState, Reason, Faulted, Received, Ended, SeatTaken, Ending, Up, Doing, nothing, sending, telling, later_of, then_also, Step, step, failed, refused, notified, keepalive, opening_fault, opened, updated, read_at, handle, handle_all, with_fault, with_rest, course_of, LARGE_HOLD, has_passed, expired, timed, tick, Input, Octets, Seat, Moment, End, Answer, moment_in, seated, claim_answered, answer, answers, begun, begun_established}
 use Rattle.rcp_model.proofs.AllLemmas.{all-append}
 use Rattle.rcp_model.proofs.SessionLemmas.{later_of-none, then-nothing, answer-closed, answer-octets, answer-seat, answer-moment, answer-end}
@@ -108,7 +108,7 @@ module _ (roster : RosterOf) (now : ℕ) where
   told-opened since body (Some why) is = rw (is, opened) (told-failed why)
   told-opened since body None is = rw (is, opened) record { ends = refl; sent = tt }
 
-  told-updated : (peering : Peering) (body : List ℕ) (found : Option FaultOf) → update_fault w16 body ≡ found → ToldBy (updated roster peering body)
+  told-updated : (peering : Peering) (body : List ℕ) (found : Option FaultOf) → update_fault number_width body ≡ found → ToldBy (updated roster peering body)
   told-updated peering body (Some why) is = rw (is, updated) (told-failed why)
   told-updated peering body None is = rw (is, updated) record { ends = refl; sent = tt }
 
@@ -128,7 +128,7 @@ module _ (roster : RosterOf) (now : ℕ) where
       let other = cond (eqb (type_field message) 3) (notified (drop 19 message)) refused in
       let alive = step (Established (read_at now peering)) nothing in
       either (eqb (type_field message) 2) (updated roster (read_at now peering) (drop 19 message)) (cond (eqb (type_field message) 4) alive other)
-      (told-updated (read_at now peering) (drop 19 message) (update_fault w16 (drop 19 message)) refl)
+      (told-updated (read_at now peering) (drop 19 message) (update_fault number_width (drop 19 message)) refl)
       (either (eqb (type_field message) 4) alive other record { ends = refl; sent = tt } (told-otherwise message))
   told-handled message (Claiming since slot terms) r = absurd cc
   told-handled message Closed r = absurd cc

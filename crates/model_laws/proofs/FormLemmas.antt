@@ -2,7 +2,7 @@
 use Rattle.std.proofs.Common.{◌≡◌, ◌≢◌, ◌⊎◌, ℕ, ◌+◌, Bool, true, false, cond, ◌&&◌, inl, inr, Contains, List, [], ◌∷◌, map, Some, refl, sym, ap, ◌∙◌, subst, arith, eqb, ltb, leb, eqb-true, ne_eqb, ltb-true}
 use Rattle.std.specs.Prelude.{filter, is_some}
 use Rattle.std.proofs.lemmas.Bool.{cases_Bool}
-use Rattle.rcp_model.specs.Attributes.{Attribute, LOCAL_PREF, MULTI_EXIT_DISC, is_recognised, is_optional, is_transitive, is_partial, category, value_of, is_kept, written, insert_by_type, by_type, default_pref, with_pref, canonical}
+use Rattle.rcp_model.specs.Attributes.{Attribute, LOCAL_PREF, MULTI_EXIT_DISC, is_recognised, is_optional, is_transitive, is_partial, category, keeps_partial, value_of, is_kept, written, insert_by_type, by_type, default_pref, with_pref, canonical}
 use Rattle.rcp_model.proofs.MemberLemmas.{Contains-cases, Contains-none}
 use Rattle.model_laws.specs.Forms.{of_type, with_flags}
 
@@ -171,14 +171,14 @@ unrecognised_sent_on list kind unknown =
     (λ a e f. let is : is_recognised a.kind ≡ false = ap is_recognised e ∙ unknown in rw (is) refl) list
 
 module _ (list : List Attribute) where
-  of_well_known : (kind : ℕ) → is_recognised kind ≡ true → category kind ≡ 64 → leb 7 kind ≡ false → kind ≢ LOCAL_PREF
+  of_well_known : (kind : ℕ) → is_recognised kind ≡ true → category kind ≡ 64 → keeps_partial kind ≡ false → kind ≢ LOCAL_PREF
       → of_type kind (canonical list) ≡ map (with_flags 64) (of_type kind list)
   of_well_known kind known is low other = recognised_sent_on kind (λ a. 64) known written-is list other where
     written-is : (a : Attribute) → a.kind ≡ kind → written a ≡ with_flags 64 a
     written-is a e =
         let known_a : is_recognised a.kind ≡ true = ap is_recognised e ∙ known in
         let is_a : category a.kind ≡ 64 = ap category e ∙ is in
-        let low_a : leb 7 a.kind ≡ false = ap (leb 7) e ∙ low in
+        let low_a : keeps_partial a.kind ≡ false = ap keeps_partial e ∙ low in
         rw (known_a, is_a, low_a) refl
 
   pub well_known_sent_on : (kind : ℕ) → Contains (1 ∷ 2 ∷ 3 ∷ 6 ∷ []) kind → of_type kind (canonical list) ≡ map (with_flags 64) (of_type kind list)
@@ -205,7 +205,7 @@ module _ (list : List Attribute) where
   pub discriminator_sent_on : of_type MULTI_EXIT_DISC (canonical list) ≡ map (with_flags 128) (of_type MULTI_EXIT_DISC list)
   discriminator_sent_on = recognised_sent_on 4 (λ a. 128) refl (λ a e. rw (e) refl) list (λ f. absurd cc)
 
-  of_partial : (kind : ℕ) → is_recognised kind ≡ true → category kind ≡ 192 → leb 7 kind ≡ true → kind ≢ LOCAL_PREF
+  of_partial : (kind : ℕ) → is_recognised kind ≡ true → category kind ≡ 192 → keeps_partial kind ≡ true → kind ≢ LOCAL_PREF
       → of_type kind (canonical list) ≡ map (λ a. with_flags (cond (is_partial a.flags) 224 192) a) (of_type kind list)
   of_partial kind known is high other = recognised_sent_on kind (λ a. cond (is_partial a.flags) 224 192) known written-is list other where
     flags-is : (partial : Bool) → 192 + cond partial 32 0 ≡ cond partial 224 192
@@ -216,7 +216,7 @@ module _ (list : List Attribute) where
     written-is a e =
         let known_a : is_recognised a.kind ≡ true = ap is_recognised e ∙ known in
         let is_a : category a.kind ≡ 192 = ap category e ∙ is in
-        let high_a : leb 7 a.kind ≡ true = ap (leb 7) e ∙ high in
+        let high_a : keeps_partial a.kind ≡ true = ap keeps_partial e ∙ high in
         rw (known_a, is_a, high_a) (ap (λ (f : ℕ). with_flags f a) (flags-is (is_partial a.flags)))
 
   pub partial_sent_on : (kind : ℕ) → Contains (7 ∷ 8 ∷ []) kind

@@ -1,7 +1,7 @@
 //! How sessions end (RFC 4271 sections 6 and 8): with which NOTIFICATION, or with none.
 
 ghost use Rattle.std.specs.Prelude.{◌≡◌, ℕ, false, List, is_some};
-ghost use Rattle.rcp_model.specs.Rosters.{RosterOf};
+ghost use Rattle.rcp_base.specs.Roster.{RosterOf};
 ghost use Rattle.rcp_model.specs.Sessions.{SessionState, Input, is_closed, answer, answers, begun, begun_established, then_also};
 ghost use Rattle.model_laws.specs.Ends.{IsEndTold};
 

@@ -8,8 +8,7 @@ use Rattle.std.proofs.lemmas.List.{length-take, length-drop}
 use Rattle.rcp_base.specs.Cut.{cut}
 use Rattle.rcp_model.specs.Messages.{FaultOf, fault}
 use Rattle.rcp_model.specs.Attributes as model
-use Rattle.rcp_model.specs.Attributes.{Attribute, attribute_of, attribute_size, attributes_in, attribute_fault, attribute_octets, list_fault, or_else, insert_by_type, by_type, is_kept, written}
-use Rattle.path_attrs.specs.Width.{number_width}
+use Rattle.rcp_model.specs.Attributes.{Attribute, attribute_of, attribute_size, attributes_in, attribute_fault, attribute_octets, list_fault, or_else, insert_by_type, by_type, is_kept, written, number_width}
 use Rattle.path_attrs.specs.Shown.{header_octets}
 use Rattle.path_attrs.specs.Lists.{types_rise_from, types_rise, octets_of, IsKept}
 use Rattle.path_attrs.specs.Readings.{passed_on, sent_on}

@@ -15,8 +15,7 @@ use Rattle.rcp_base.specs.Cut.{cut}
 use Rattle.rcp_base.specs.Checks.{first_failing}
 use Rattle.rcp_model.specs.Messages.{FaultOf, fault}
 use Rattle.rcp_model.specs.Attributes as model
-use Rattle.rcp_model.specs.Attributes.{Attribute, ORIGIN, AS_PATH, NEXT_HOP, attribute_of, attribute_size, attributes_in, attribute_fault, attributes_fault, list_fault, missing_fault, or_else, is_recognised, is_optional, has_other_category, has_other_length, has_faulty_value, value_fault}
-use Rattle.path_attrs.specs.Width.{number_width}
+use Rattle.rcp_model.specs.Attributes.{Attribute, ORIGIN, AS_PATH, NEXT_HOP, attribute_of, attribute_size, attributes_in, attribute_fault, attributes_fault, list_fault, missing_fault, or_else, is_recognised, is_optional, has_other_category, has_other_length, has_faulty_value, value_fault, number_width}
 use Rattle.path_attrs.specs.Refusals.{fault_in}
 use Rattle.path_attrs.specs.Readings.{own_fault, update_fault, faulty_value, piece_at, next_fault, malformed_list}
 use Rattle.path_attrs.proofs.Cutting.{cut-more, cut-none}

@@ -9,8 +9,8 @@ use Rattle.std.specs.Prelude.{slice_index}
 use Rattle.std.proofs.Math.Bool.{or-true}
 use Rattle.rcp_base.specs.Cut.{cut}
 use Rattle.rcp_model.specs.Messages.{is_outside}
-use Rattle.rcp_model.specs.Attributes.{number_size, numbers_in, segment_size, segment_of, segments_in, is_faulty_path}
-use Rattle.path_attrs.specs.Width.{number_width, number_octets}
+use Rattle.rcp_model.specs.Attributes.{number_size, numbers_in, segment_size, segment_of, segments_in, is_faulty_path, number_width}
+use Rattle.path_attrs.specs.Width.{number_octets}
 use Rattle.path_attrs.specs.declared.path.SegmentKind.{SegmentKind}
 use Rattle.path_attrs.specs.declared.path.SegmentKind.TheVariants.{AsSet, AsSequence}
 use Rattle.path_attrs.specs.Segments.{kind_octet}

@@ -3,10 +3,9 @@ use Rattle.std.specs.Prelude.{◌≡◌, ℕ, Bool, true, false, slice_index, sl
 use Rattle.bgp_fault.specs.declared.Data.{Data}
 use Rattle.bgp_fault.specs.declared.Data.TheVariants.{None as NoData, Span}
 use Rattle.bgp_fault.specs.declared.Fault.{Fault}
-use Rattle.rcp_model.specs.Attributes.{Attribute, ORIGIN, AS_PATH, NEXT_HOP, attribute_of, attribute_size, attributes_in, canonical_octets, is_recognised, is_optional, has_other_category, has_other_length, has_faulty_value, is_kept, written, insert_by_type, by_type}
+use Rattle.rcp_model.specs.Attributes.{Attribute, ORIGIN, AS_PATH, NEXT_HOP, attribute_of, attribute_size, attributes_in, canonical_octets, is_recognised, is_optional, has_other_category, has_other_length, has_faulty_value, is_kept, written, insert_by_type, by_type, number_width}
 use Rattle.path_attrs.specs.Refusals.{malformed_path}
 use Rattle.path_attrs.specs.Shown.{shown}
-use Rattle.path_attrs.specs.Width.{number_width}
 use Rattle.path_attrs.specs.declared.value.Value.{Value}
 
 -- of these attributes those that are sent on, with their flags

@@ -2,8 +2,8 @@
 
 ghost use Rattle.std.specs.Prelude.{◌≡◌, ◌+◌, ◌≤◌, length};
 ghost use Rattle.std.specs.Int.{byte_len};
+ghost use Rattle.rcp_model.specs.Attributes.{number_width};
 ghost use Rattle.path_attrs.specs.Appending.{Appends};
-ghost use Rattle.path_attrs.specs.Width.{number_width};
 ghost use Rattle.path_attrs.specs.Aggregators.{aggregator_octets};
 
 use crate::numbers::{AsNumber, NUMBER_LEN, put_number, put_u32, split_number, split_u32};

@@ -2,10 +2,9 @@
 
 ghost use Rattle.std.specs.Prelude.{◌≡◌, ℕ, ◌<◌, Bool, List, None};
 ghost use Rattle.std.specs.List.{All};
-ghost use Rattle.rcp_model.specs.Attributes.{attributes_fault};
+ghost use Rattle.rcp_model.specs.Attributes.{attributes_fault, number_width};
 ghost use Rattle.rcp_model.specs.Routes.{route_of};
 ghost use Rattle.path_attrs.specs.Readings.{read_of, written_of};
-ghost use Rattle.path_attrs.specs.Width.{number_width};
 
 /// What is written of attributes that were read has no fault, and is read as attributes of which the same is written and
 /// the same route is made. (`read` takes it where it has at most 4,073 octets.)

@@ -2,9 +2,9 @@
 
 ghost use Rattle.std.specs.Prelude.{◌≡◌, ◌+◌, ◌<◌, ◌≤◌, ◌∷◌, ◌++◌, length, IfNone, IfSome, MatchOption};
 ghost use Rattle.std.specs.Int.{w32, to_be_bytes, byte_len};
-ghost use Rattle.rcp_model.specs.Attributes.{numbers_in};
+ghost use Rattle.rcp_model.specs.Attributes.{numbers_in, number_width};
 ghost use Rattle.path_attrs.specs.Appending.{Appends};
-ghost use Rattle.path_attrs.specs.Width.{number_width, number_octets};
+ghost use Rattle.path_attrs.specs.Width.{number_octets};
 
 use crate::put::put;
 

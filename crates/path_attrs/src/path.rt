@@ -3,13 +3,13 @@
 ghost use Rattle.std.specs.Prelude.{◌≡◌, ◌+◌, ◌<◌, ◌≤◌, [], ◌∷◌, ◌++◌, ◌%◌, true, false, ◌^◌, length, ◌==◌, sum_by, IfOk, IfErr, OnOk, IsTrue, MatchOption};
 ghost use Rattle.std.specs.Int.{byte_len};
 ghost use Rattle.std.specs.List.{flat_map, list_any};
-ghost use Rattle.rcp_model.specs.Attributes.{is_faulty_path, numbers_in, segments_in};
+ghost use Rattle.rcp_model.specs.Attributes.{is_faulty_path, numbers_in, segments_in, number_width};
 ghost use Rattle.rcp_model.specs.Messages.{is_outside};
 ghost use Rattle.path_attrs.specs.Appending.{Appends};
 ghost use Rattle.path_attrs.specs.Segments.{kind_octet, segment_octets, path_octets};
 ghost use Rattle.path_attrs.specs.Refusals.{IfFault, malformed_path};
 ghost use Rattle.rcp_model.specs.Routes.{hops_of, neighbour_of};
-ghost use Rattle.path_attrs.specs.Width.{number_width, number_octets};
+ghost use Rattle.path_attrs.specs.Width.{number_octets};
 
 use crate::numbers::{AsNumber, NUMBER_LEN, put_number, split_number};
 use crate::put::put;
@@ -82,9 +82,8 @@ pub struct Path {
 
 impl Model for Path {
     ghost use Rattle.std.specs.Prelude.{◌≡◌, List};
-    ghost use Rattle.rcp_model.specs.Attributes.{Segment as Shown, segments_in};
+    ghost use Rattle.rcp_model.specs.Attributes.{Segment as Shown, number_width, segments_in};
     ghost use Rattle.path_attrs.specs.Segments.{path_octets};
-    ghost use Rattle.path_attrs.specs.Width.{number_width};
 
     ghost Value = { List Shown };
 

@@ -2,12 +2,11 @@
 
 ghost use Rattle.std.specs.Prelude.{◌≡◌, ◌+◌, ◌-◌, ◌==◌, ◌||◌, ◌<◌, ◌≤◌, ◌^◌, [], ◌∷◌, true, false, length, IfOk, IfErr, OnOk, IsTrue, not, is_none, List, ℕ, Some, None};
 ghost use Rattle.rcp_model.specs.Attributes as model;
-ghost use Rattle.rcp_model.specs.Attributes.{attribute_of, attribute_size, attributes_in, attributes_fault, list_fault, missing_fault, value_of, canonical_octets, is_recognised, written};
+ghost use Rattle.rcp_model.specs.Attributes.{attribute_of, attribute_size, attributes_in, attributes_fault, list_fault, missing_fault, value_of, canonical_octets, is_recognised, written, number_width};
 ghost use Rattle.rcp_model.specs.Routes.{route_of};
 ghost use Rattle.path_attrs.specs.Refusals.{IfFault, fault_in};
 ghost use Rattle.path_attrs.specs.Readings.{maybe_shown, passed_on, update_fault, own_fault, next_fault, IsNext, sent_on, read_of};
 ghost use Rattle.path_attrs.specs.Shown.{shown, all_shown};
-ghost use Rattle.path_attrs.specs.Width.{number_width};
 ghost use Rattle.bgp_fault.specs.declared.Data.TheVariants.{Octet, Span};
 ghost use Rattle.std.specs.List.{list_all};
 ghost use Rattle.bgp_fault.specs.Faults.{IsWithin};

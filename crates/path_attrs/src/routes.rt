@@ -3,11 +3,10 @@
 ghost use Rattle.std.specs.Prelude.{◌≡◌, [], Some, IsTrue, IfOk, is_some, nat_lt, unwrap_or};
 ghost use Rattle.std.specs.Int.{w8, from_be_bytes};
 ghost use Rattle.rcp_model.specs.Attributes as model;
-ghost use Rattle.rcp_model.specs.Attributes.{value_of};
+ghost use Rattle.rcp_model.specs.Attributes.{value_of, number_width};
 ghost use Rattle.rcp_model.specs.Routes.{number_or, path_of, route_of};
 ghost use Rattle.path_attrs.specs.Segments.{path_octets};
 ghost use Rattle.path_attrs.specs.Shown.{all_shown};
-ghost use Rattle.path_attrs.specs.Width.{number_width};
 
 use crate::attrs::{Attrs, find};
 use crate::path::{Segment, hops, neighbour, passes};

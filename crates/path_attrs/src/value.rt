@@ -2,13 +2,12 @@
 
 ghost use Rattle.std.specs.Prelude.{◌≡◌, ◌+◌, ◌<◌, ◌≤◌, ◌^◌, true, false, length, slice_index, OnOk, IfOk, IfErr};
 ghost use Rattle.std.specs.Int.{w32, to_be_bytes};
-ghost use Rattle.rcp_model.specs.Attributes.{attribute_octets, has_faulty_value, has_other_length, is_recognised, written};
+ghost use Rattle.rcp_model.specs.Attributes.{attribute_octets, has_faulty_value, has_other_length, is_recognised, written, number_width};
 ghost use Rattle.rcp_model.specs.Messages.{is_outside};
 ghost use Rattle.path_attrs.specs.Appending.{Appends};
 ghost use Rattle.path_attrs.specs.Readings.{faulty_value, update_fault};
 ghost use Rattle.path_attrs.specs.Refusals.{IfFault};
 ghost use Rattle.path_attrs.specs.Shown.{shown, header_octets, with_partial as flags_with};
-ghost use Rattle.path_attrs.specs.Width.{number_width};
 
 use crate::aggregator::{AGGREGATOR_LEN, Aggregator};
 use crate::communities::{communities_len, put_communities, read_communities};

@@ -1,11 +1,14 @@
 -- What `masked` keeps, and that a prefix's octets are read again.
-use Rattle.std.proofs.Common.{◌≡◌, ℕ, zero, suc, ◌+◌, ◌-◌, ◌*◌, ◌/◌, ◌%◌, ◌^◌, ◌<◌, ◌≤◌, true, leb, List, ◌∷◌, ◌++◌, length, take, Option, Some, refl, sym, ap, ◌∙◌, arith}
+use Rattle.std.proofs.Common.{◌≡◌, ℕ, zero, suc, ◌+◌, ◌-◌, ◌*◌, ◌/◌, ◌%◌, ◌^◌, ◌<◌, ◌≤◌, true, false, leb, ltb, eqb, List, ◌∷◌, ◌++◌, length, take, Option, Some, refl, sym, ap, ◌∙◌, arith}
 use Rattle.std.specs.Int.{w32, to_be_bytes}
-use Rattle.std.proofs.lemmas.Bool.{le-leb}
+use Rattle.std.proofs.lemmas.Bool.{le-leb, le-ltb, lt-ltb, eq-eqb, ne_eqb}
+use Rattle.std.proofs.lemmas.Cmp.{by_ranked, ranked}
+use Rattle.std.specs.Ordering.{nat_cmp, is_lt}
 use Rattle.std.proofs.lemmas.List.{take_at, length-take, length-append, append_cancel_left}
 use Rattle.std.proofs.lemmas.Nat.{div-add-mod', mod-mul-add, mod-pow-add, pow_pos}
 use Rattle.std.proofs.lemmas.Option.{some_pair_parts, same_Some}
-use Rattle.rcp_base.specs.IpPrefix.{IpPrefix, IsPrefix, masked, octets_for, address_of_octets, prefix_of, prefix_at, prefix_octets}
+use Rattle.rcp_base.specs.IpPrefix.{IpPrefix, IsPrefix, masked, octets_for, address_of_octets, prefix_of, prefix_at, prefix_octets, prefix_cmp}
+use Rattle.rcp_base.specs.Maps.{is_before}
 
 -- shifting the unused bits out and back in sets them to 0
 masked-is : (addr len : ℕ) → addr / 2 ^ (32 - len) * 2 ^ (32 - len) ≡ masked addr len
@@ -91,3 +94,21 @@ read_front bytes rest len count addr p whole le count-is long addr-is made =
     ∙ ap (λ (a : ℕ). Some (record { addr = masked a len; len = len }, 1 + octets_for len)) (addr-is ∙ ap address_of_octets front)
     ∙ sym (prefix_at-cons len rest le (omega arith))
     ∙ ap prefix_at (sym whole)
+
+-- ---- the order
+
+less-cmp : (m n : ℕ) → ltb m n ≡ is_lt (nat_cmp m n)
+less-cmp m n = by_ranked (m < n) (m ≡ n) (n < m) (nat_cmp m n) (ranked m n (nat_cmp m n) refl)
+    (λ is lt. lt-ltb m n lt ∙ ap is_lt (sym is)) (λ is same. le-ltb m n (omega (arith, same)) ∙ ap is_lt (sym is)) (λ is gt. le-ltb m n (omega (arith, gt)) ∙ ap is_lt (sym is))
+
+pub before-cmp : (p q : IpPrefix) → is_before p q ≡ is_lt (prefix_cmp p q)
+before-cmp p q = by_ranked (p.addr < q.addr) (p.addr ≡ q.addr) (q.addr < p.addr) (nat_cmp p.addr q.addr) (ranked p.addr q.addr (nat_cmp p.addr q.addr) refl)
+    (λ is lt. let below : ltb p.addr q.addr ≡ true = lt-ltb _ _ lt in rw (is, below) refl)
+    (λ is same.
+    let below : ltb p.addr q.addr ≡ false = le-ltb _ _ (omega (arith, same)) in
+    let equal : eqb p.addr q.addr ≡ true = eq-eqb _ _ same in
+    rw (is, below, equal) (less-cmp p.len q.len))
+    (λ is gt.
+    let below : ltb p.addr q.addr ≡ false = le-ltb _ _ (omega (arith, gt)) in
+    let equal : eqb p.addr q.addr ≡ false = ne_eqb _ _ (λ e. omega (arith, gt, e)) in
+    rw (is, below, equal) refl)

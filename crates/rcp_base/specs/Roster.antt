@@ -4,6 +4,7 @@ use Rattle.std.specs.List.{list_any, slice_split}
 use Rattle.rcp_base.specs.declared.kinds.RosterWhy.{RosterWhy}
 use Rattle.rcp_base.specs.declared.kinds.RosterWhy.TheVariants as why
 use Rattle.rcp_base.specs.declared.names.Member.{Member}
+use Rattle.rcp_base.specs.declared.names.Edge.{Edge}
 use Rattle.rcp_base.specs.Checks.{first_failing, unless}
 use Rattle.rcp_base.specs.Text.{number_of, address_of}
 
@@ -92,12 +93,6 @@ line_of line = if list_any is_empty (words_of line) then Err why.Word else line_
 
 -- ---- what the lines before have said
 
--- a link in one direction
-pub record RosterLink : Type 0 where
-  pub from : ℕ
-  pub to : ℕ
-  pub cost : ℕ
-
 pub record Named : Type 0 where
   pub as_number : Option ℕ
   pub id : Option ℕ
@@ -105,7 +100,7 @@ pub record Named : Type 0 where
   pub hold : Option ℕ
   pub area : Option ℕ
   pub members : List Member
-  pub links : List RosterLink
+  pub links : List Edge
 
 abbrev pub nothing_named : Named
 nothing_named = record { as_number = None; id = None; shards = None; hold = None; area = None; members = []; links = [] }
@@ -166,7 +161,7 @@ with_any_text named text = if is_skipped text then Ok named else with_text named
 
 -- ---- the roster
 
--- the settings, the routers in the order of their lines, and two links for each link line, forth and back
+-- the settings, the routers in the order of their lines, and two edges for each link line, forth and back
 pub record RosterOf : Type 0 where
   pub as_number : ℕ
   pub id : ℕ
@@ -174,7 +169,7 @@ pub record RosterOf : Type 0 where
   pub hold : ℕ
   pub area : ℕ
   pub members : List Member
-  pub links : List RosterLink
+  pub links : List Edge
 
 -- a faulty line, counted from 1, and why it is one
 pub record FaultyLine : Type 0 where
@@ -202,3 +197,10 @@ roster_from line named (text ∷ texts) = elim (with_any_text named text) [
 
 abbrev pub roster_of : List ℕ → Result RosterOf FaultyLine
 roster_of text = roster_from 1 nothing_named (lines_of text)
+
+-- ---- slots
+
+-- the slot of a router among members, of which the first has this slot
+abbrev pub slot_from : ℕ → List Member → ℕ → Option ℕ
+slot_from slot [] router = None
+slot_from slot (member ∷ members) router = if member.router == router then Some slot else slot_from (slot + 1) members router

@@ -20,9 +20,9 @@ mod prefix;
 mod text;
 
 pub use kinds::{FeedWhy, Kind, RosterWhy};
-pub use names::{Addr, Member, RouterId, Slot};
+pub use names::{Addr, Edge, Member, RouterId, Slot};
 pub use no_memory::NoMemory;
-pub use prefix::{Prefix, octets_are_read_again, octets_tell_the_prefix, shard_of};
+pub use prefix::{Prefix, before_is_less, octets_are_read_again, octets_tell_the_prefix, shard_of};
 pub use text::{
     read_addr, read_number, read_prefix, texts_are_read_again, write_addr, write_prefix,
 };

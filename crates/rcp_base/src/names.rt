@@ -1,4 +1,4 @@
-//! Addresses, router IDs, slots and members.
+//! Addresses, router IDs, slots, members and edges.
 
 ghost use Rattle.std.specs.Prelude.{Some};
 ghost use Rattle.rcp_base.specs.Text.{address_text};
@@ -53,6 +53,14 @@ impl Model for Slot {
 pub struct Member {
     pub router: RouterId,
     pub bgp_id: Addr,
+}
+
+/// A directed link of the interior network with its cost (RFC 2328 section 16.1).
+#[derive(Clone, Copy, Debug, PartialEq, Eq, PartialOrd, Ord)]
+pub struct Edge {
+    pub from: RouterId,
+    pub to: RouterId,
+    pub cost: u32,
 }
 
 impl fmt::Display for Addr {

@@ -1,16 +1,22 @@
 //! IP address prefixes and their octets (RFC 4271 section 4.3).
 
 ghost use Rattle.std.specs.Prelude.{◌≡◌, ℕ, ◌+◌, ◌<◌, ◌≤◌, List, ◌++◌, length, drop, Some, IfSome};
-ghost use Rattle.rcp_base.specs.IpPrefix.{IpPrefix, IsPrefix, prefix_of, prefix_at, octets_for, address_of_octets, prefix_octets, shard_of_prefix};
+ghost use Rattle.rcp_base.specs.IpPrefix.{IpPrefix, IsPrefix, prefix_of, prefix_at, octets_for, address_of_octets, prefix_octets, prefix_cmp, shard_of_prefix};
+ghost use Rattle.std.proofs.Common.{rules};
+ghost use Rattle.std.specs.Cmp.{partial_order_from_own_ties};
+ghost use Rattle.std.specs.Cmp.Rules.{comparing};
+ghost use Rattle.std.specs.Ordering.{as_partial_cmp, is_lt};
+ghost use Rattle.rcp_base.specs.Maps.{is_before};
 ghost use Rattle.rcp_base.specs.Text.{prefix_text};
 
 use crate::names::Addr;
+use std::cmp::Ordering;
 use std::fmt;
 use std::marker::Model;
 
 /// An address, and how many of its first bits count. The other bits are 0. Prefixes are ordered by
 /// address, then by length.
-#[derive(Clone, Copy, Debug, PartialEq, Eq, PartialOrd, Ord, Hash)]
+#[derive(Clone, Copy, Debug, PartialEq, Eq, Hash)]
 pub struct Prefix {
     addr: u32,
     len: u8,
@@ -88,6 +94,30 @@ impl Prefix {
     }
 }
 
+impl Ord for Prefix {
+    ghost cmp = { prefix_cmp };
+
+    ghost total = { Prim.search (comparing, rules) };
+
+    ghost matches_partial_cmp = { Prim.search (comparing, rules) };
+
+    ghost matches_eq = { Prim.search (comparing, rules) };
+
+    fn cmp(&self, other: &Prefix) -> Ordering {
+        self.addr.cmp(&other.addr).then(self.len.cmp(&other.len))
+    }
+}
+
+impl PartialOrd for Prefix {
+    ghost partial_cmp = { as_partial_cmp prefix_cmp };
+
+    ghost laws = { partial_order_from_own_ties (Prim.search (comparing, rules)) (Prim.search (comparing, rules)) };
+
+    fn partial_cmp(&self, other: &Prefix) -> Option<Ordering> {
+        Some(self.cmp(other))
+    }
+}
+
 impl fmt::Display for Prefix {
     ghost output = { λ p. Some (prefix_text p) };
 
@@ -132,4 +162,9 @@ pub fn octets_are_read_again()
 /// No prefix's octets begin another's: the octets tell the prefix, and where it ends.
 pub fn octets_tell_the_prefix()
     ensures { (p q : IpPrefix) (x y : List ℕ) → IsPrefix p → IsPrefix q → prefix_octets p ++ x ≡ prefix_octets q ++ y → (p ≡ q) × (x ≡ y) }
+{}
+
+/// A prefix is before another exactly where it compares as less.
+pub fn before_is_less()
+    ensures { (p q : IpPrefix) → is_before p q ≡ is_lt (prefix_cmp p q) }
 {}

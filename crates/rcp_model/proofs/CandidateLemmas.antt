@@ -1,11 +1,11 @@
 -- The candidates of a slot at a prefix.
 use Rattle.std.proofs.Common.{◌≡◌, ◌≢◌, ℕ, zero, suc, ◌+◌, ◌<◌, Bool, true, false, cond, ◌⊎◌, ◌↔◌, List, [], ◌∷◌, length, get_or, Contains, AllPairs, Option, Some, None, IsSome, is_some, slice_get, refl, sym, ap, ◌∙◌, inl, inr, arith, eqb, ne_eqb}
-use Rattle.std.specs.Int.{w16}
 use Rattle.std.proofs.lemmas.Bool.{false≢true, eqb-false}
 use Rattle.std.proofs.lemmas.Option.{slice_get_within, get_or_from_slice_get}
 use Rattle.std.proofs.lemmas.List.Elements.{Contains-get_or}
 use Rattle.rcp_base.specs.declared.names.Member.{Member}
-use Rattle.rcp_model.specs.declared.event.Edge.{Edge}
+use Rattle.rcp_base.specs.declared.names.Edge.{Edge}
+use Rattle.rcp_model.specs.Attributes.{number_width}
 use Rattle.rcp_model.specs.Routes.{route_in, is_usable}
 use Rattle.rcp_model.specs.Decision.{Contender, contender, tied, IsNearest}
 use Rattle.rcp_model.specs.RouteServer.{Domain, Announced, slot_cost, announcement_contender, cons_some, candidates_from, candidates, IsCandidate, choice_of, unless_own, offer}
@@ -28,16 +28,16 @@ module _ (domain : Domain) (announced : Announced) (cost_to : ℕ → Option ℕ
     seat : slice_get members place ≡ Some member
     octets : List ℕ
     is_announced : announced a.slot ≡ Some octets
-    usable : is_usable (route_in w16 domain.as_number octets) ≡ true
+    usable : is_usable (route_in number_width domain.as_number octets) ≡ true
     reached : IsSome (cost_to a.slot)
-    compared : a ≡ contender a.slot member.bgp_id (route_in w16 domain.as_number octets)
+    compared : a ≡ contender a.slot member.bgp_id (route_in number_width domain.as_number octets)
 
   record Here (slot id : ℕ) (found : Option (List ℕ)) (cost : Option ℕ) (a : Contender) : Type 0 where
     octets : List ℕ
     is_found : found ≡ Some octets
-    usable : is_usable (route_in w16 domain.as_number octets) ≡ true
+    usable : is_usable (route_in number_width domain.as_number octets) ≡ true
     reached : IsSome cost
-    compared : a ≡ contender slot id (route_in w16 domain.as_number octets)
+    compared : a ≡ contender slot id (route_in number_width domain.as_number octets)
 
   here_of : (slot id : ℕ) (found : Option (List ℕ)) (cost : Option ℕ) (a : Contender) → announcement_contender domain slot id found cost ≡ Some a → Here slot id found cost a
   here_of slot id None cost a is = absurd (none_some is) where
@@ -46,8 +46,8 @@ module _ (domain : Domain) (announced : Announced) (cost_to : ℕ → Option ℕ
   here_of slot id (Some octets) None a is = absurd (none_some is) where
     none_some : None ≡ Some a → ⊥
     none_some e = cc
-  here_of slot id (Some octets) (Some n) a is = at_test (is_usable (route_in w16 domain.as_number octets)) refl is where
-    at_test : (t : Bool) → is_usable (route_in w16 domain.as_number octets) ≡ t → cond t (Some (contender slot id (route_in w16 domain.as_number octets))) None ≡ Some a → Here slot id (Some octets) (Some n) a
+  here_of slot id (Some octets) (Some n) a is = at_test (is_usable (route_in number_width domain.as_number octets)) refl is where
+    at_test : (t : Bool) → is_usable (route_in number_width domain.as_number octets) ≡ t → cond t (Some (contender slot id (route_in number_width domain.as_number octets))) None ≡ Some a → Here slot id (Some octets) (Some n) a
     at_test true usable is = record { octets = octets; is_found = refl; usable = usable; reached = refl; compared = cc }
     at_test false usable is = absurd (none_some is) where
       none_some : None ≡ Some a → ⊥
@@ -84,7 +84,7 @@ module _ (domain : Domain) (announced : Announced) (cost_to : ℕ → Option ℕ
           is_announced = ap announced same ∙ here.is_found;
           usable = here.usable;
           reached = ap (λ s. is_some (cost_to s)) same ∙ here.reached;
-          compared = here.compared ∙ ap (λ s. contender s member.bgp_id (route_in w16 domain.as_number here.octets)) (sym same);
+          compared = here.compared ∙ ap (λ s. contender s member.bgp_id (route_in number_width domain.as_number here.octets)) (sym same);
         }
     | inr rest ↦
         let from = from_members (suc first) members a rest in
@@ -102,8 +102,8 @@ module _ (domain : Domain) (announced : Announced) (cost_to : ℕ → Option ℕ
   ]
 
   member_from : (first : ℕ) (members : List Member) (place : ℕ) (a : Contender) (member : Member) (octets : List ℕ) → a.slot ≡ first + place → slice_get members place ≡ Some member
-      → announced a.slot ≡ Some octets → is_usable (route_in w16 domain.as_number octets) ≡ true → IsSome (cost_to a.slot)
-      → a ≡ contender a.slot member.bgp_id (route_in w16 domain.as_number octets) → Contains (candidates_from domain announced cost_to first members) a
+      → announced a.slot ≡ Some octets → is_usable (route_in number_width domain.as_number octets) ≡ true → IsSome (cost_to a.slot)
+      → a ≡ contender a.slot member.bgp_id (route_in number_width domain.as_number octets) → Contains (candidates_from domain announced cost_to first members) a
   member_from first [] place a member octets at seat is_announced usable reached compared = absurd (some_none (sym seat)) where
     some_none : {m : Member} → Some m ≡ None → ⊥
     some_none e = cc
@@ -116,7 +116,7 @@ module _ (domain : Domain) (announced : Announced) (cost_to : ℕ → Option ℕ
         is_found = ap announced (sym same) ∙ is_announced;
         usable = usable;
         reached = ap (λ s. is_some (cost_to s)) (sym same) ∙ reached;
-        compared = compared ∙ ap (λ s. contender s member.bgp_id (route_in w16 domain.as_number octets)) same ∙ ap (λ (m : Member). contender first m.bgp_id (route_in w16 domain.as_number octets)) (sym is_member);
+        compared = compared ∙ ap (λ s. contender s member.bgp_id (route_in number_width domain.as_number octets)) same ∙ ap (λ (m : Member). contender first m.bgp_id (route_in number_width domain.as_number octets)) (sym is_member);
       }))
   member_from first (other ∷ members) (suc place) a member octets at seat is_announced usable reached compared =
       cons_some-rest _ (candidates_from domain announced cost_to (suc first) members) a

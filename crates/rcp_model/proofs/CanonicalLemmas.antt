@@ -7,20 +7,36 @@ use Rattle.std.specs.Int.{w16, to_be_bytes}
 use Rattle.std.proofs.lemmas.List.Elements.{All-nil, All-append, All-from_recursion}
 use Rattle.std.proofs.lemmas.Bool.{cond_both, false≢true}
 use Rattle.rcp_base.specs.Cut.{cut}
-use Rattle.rcp_model.specs.Attributes.{Attribute, LOCAL_PREF, is_recognised, is_partial, category, attribute_size, attribute_of, attributes_in, value_of, is_kept, written_flags, written, insert_by_type, by_type, default_pref, with_pref, canonical, attribute_octets, canonical_octets}
+use Rattle.rcp_model.specs.Attributes.{Attribute, AttributeType, LOCAL_PREF, attribute_types, in_row, is_recognised, is_partial, category, keeps_partial, attribute_size, attribute_of, attributes_in, value_of, is_kept, written_flags, written, insert_by_type, by_type, default_pref, with_pref, canonical, attribute_octets, canonical_octets}
 use Rattle.rcp_base.proofs.CutLemmas.{IsFront, cut-flat_map_all}
 use Rattle.rcp_model.proofs.AttributeLemmas.{IsSize-attribute_size, IsFront-attribute, IsAttribute-attribute_octets, attribute_of-attribute_octets, read_back, IsShort, HasOctets}
 
 -- ---- flags that are written
 
+-- what holds of each row, and where there is none
+in_row-all : {A : Type 0} (says : AttributeType → A) (P : A → Type 0) (none : A) (kind : ℕ) (rows : List AttributeType) → P none → AllByRecursion (λ row. P (says row)) rows
+    → P (in_row says none kind rows)
+in_row-all says P none kind [] otherwise each = otherwise
+in_row-all says P none kind (row ∷ rows) otherwise each =
+    cond_both (eqb kind row.kind) (says row) (in_row says none kind rows) P (λ _. each.0) (λ _. in_row-all says P none kind rows otherwise each.1)
+
+pub category-whole : (kind : ℕ) → (category kind % 64 ≡ 0) × (category kind ≤ 192)
+category-whole kind =
+    let whole : (n : ℕ) → Type 0 = λ n. (n % 64 ≡ 0) × (n ≤ 192) in
+    let least : whole 0 = (refl, omega arith) in
+    let one : whole 64 = (refl, omega arith) in
+    let other : whole 128 = (refl, omega arith) in
+    let both : whole 192 = (refl, omega arith) in
+    in_row-all (λ row. row.category) whole 0 kind attribute_types least (one, (one, (one, (other, (one, (one, (both, (both, tt))))))))
+
 category-plain : (kind : ℕ) → category kind % 32 ≡ 0
-category-plain kind = cond_both (eqb kind 4) 128 (cond (ltb kind 7) 64 192) (λ (n : ℕ). n % 32 ≡ 0) (λ _. refl) (λ _. cond_both (ltb kind 7) 64 192 (λ (n : ℕ). n % 32 ≡ 0) (λ _. refl) (λ _. refl))
+category-plain kind = omega (arith, (category-whole kind).0)
 
 -- only optional, transitive and partial are among them
 written_flags-plain : (a : Attribute) → written_flags a % 32 ≡ 0
 written_flags-plain a =
-    cond_both (is_recognised a.kind) (category a.kind + cond (leb 7 a.kind && is_partial a.flags) 32 0) 224 (λ (n : ℕ). n % 32 ≡ 0)
-    (λ _. cond_both (leb 7 a.kind && is_partial a.flags) 32 0 (λ (n : ℕ). (category a.kind + n) % 32 ≡ 0) (λ _. omega (arith, category-plain a.kind)) (λ _. omega (arith, category-plain a.kind)))
+    cond_both (is_recognised a.kind) (category a.kind + cond (keeps_partial a.kind && is_partial a.flags) 32 0) 224 (λ (n : ℕ). n % 32 ≡ 0)
+    (λ _. cond_both (keeps_partial a.kind && is_partial a.flags) 32 0 (λ (n : ℕ). (category a.kind + n) % 32 ≡ 0) (λ _. omega (arith, category-plain a.kind)) (λ _. omega (arith, category-plain a.kind)))
     (λ _. refl)
 
 -- the flag of the length, which is below these, changes none of them
@@ -43,12 +59,19 @@ pub record IsWritten (a : Attribute) : Type 0 where
 pub flags-plain : (a : Attribute) → IsWritten a → a.flags % 32 ≡ 0
 flags-plain a w = subst (λ (b : Attribute). b.flags % 32 ≡ 0) w.same (written_flags-plain a)
 
-category-high : (kind : ℕ) → leb 7 kind ≡ true → category kind ≡ 192
-category-high kind e =
-    let le : 7 ≤ kind = leb-true _ _ e in
-    let no : eqb kind 4 ≡ false = ne_eqb kind 4 (λ (f : kind ≡ 4). omega arith) in
-    let high : ltb kind 7 ≡ false = le-ltb kind 7 le in
-    rw (no, high) refl
+category-high : (kind : ℕ) → keeps_partial kind ≡ true → category kind ≡ 192
+category-high kind e = at_row attribute_types (no, (no, (no, (no, (no, (no, (λ _. refl, (λ _. refl, tt)))))))) e where
+  no : {c : ℕ} → false ≡ true → c ≡ 192
+  no e = absurd (false≢true e)
+
+  at_row : (rows : List AttributeType) → AllByRecursion (λ row. row.keeps_partial ≡ true → row.category ≡ 192) rows
+      → in_row (λ row. row.keeps_partial) false kind rows ≡ true → in_row (λ row. row.category) 0 kind rows ≡ 192
+  at_row [] each e = absurd (false≢true e)
+  at_row (row ∷ rows) each e = at_test (eqb kind row.kind) (at_row rows each.1) e where
+    at_test : (t : Bool) → (in_row (λ row. row.keeps_partial) false kind rows ≡ true → in_row (λ row. row.category) 0 kind rows ≡ 192)
+        → cond t row.keeps_partial (in_row (λ row. row.keeps_partial) false kind rows) ≡ true → cond t row.category (in_row (λ row. row.category) 0 kind rows) ≡ 192
+    at_test true later e = each.0 e
+    at_test false later e = later e
 
 abbrev chosen_flags : Bool → Bool → Bool → ℕ → ℕ
 chosen_flags recognised high partial c = cond recognised (c + cond (high && partial) 32 0) 224
@@ -61,7 +84,7 @@ chosen_again true true true c is = rw (is refl) refl
 
 pub written-written : (a : Attribute) → written (written a) ≡ written a
 written-written a =
-    ap (λ (f : ℕ). record { flags = f; kind = a.kind; value = a.value }) (chosen_again (is_recognised a.kind) (leb 7 a.kind) (is_partial a.flags) (category a.kind) (category-high a.kind))
+    ap (λ (f : ℕ). record { flags = f; kind = a.kind; value = a.value }) (chosen_again (is_recognised a.kind) (keeps_partial a.kind) (is_partial a.flags) (category a.kind) (category-high a.kind))
 
 kept_by : (recognised : Bool) (a : Attribute) → is_recognised a.kind ≡ recognised → is_kept (written a) ≡ true
 kept_by true a e = rw e refl
@@ -84,7 +107,7 @@ kept-read_back a w =
 
 written-extended : (a : Attribute) → a.flags % 32 ≡ 0 → written (record a { flags = a.flags + 16 }) ≡ written a
 written-extended a plain =
-    ap (λ (p : Bool). record { flags = chosen_flags (is_recognised a.kind) (leb 7 a.kind) p (category a.kind); kind = a.kind; value = a.value }) (is_partial-extended a.flags plain)
+    ap (λ (p : Bool). record { flags = chosen_flags (is_recognised a.kind) (keeps_partial a.kind) p (category a.kind); kind = a.kind; value = a.value }) (is_partial-extended a.flags plain)
 
 written-read_back : (a : Attribute) → IsWritten a → written (read_back a) ≡ a
 written-read_back a w =
@@ -319,11 +342,11 @@ pref-canonical list =
 
 written_flags-fit : (a : Attribute) → written_flags a ≤ 224
 written_flags-fit a =
-    cond_both (is_recognised a.kind) (category a.kind + cond (leb 7 a.kind && is_partial a.flags) 32 0) 224 (λ (n : ℕ). n ≤ 224)
-    (λ _. cond_both (leb 7 a.kind && is_partial a.flags) 32 0 (λ (n : ℕ). category a.kind + n ≤ 224) (λ _. omega (arith, category-fits a.kind)) (λ _. omega (arith, category-fits a.kind)))
+    cond_both (is_recognised a.kind) (category a.kind + cond (keeps_partial a.kind && is_partial a.flags) 32 0) 224 (λ (n : ℕ). n ≤ 224)
+    (λ _. cond_both (keeps_partial a.kind && is_partial a.flags) 32 0 (λ (n : ℕ). category a.kind + n ≤ 224) (λ _. omega (arith, category-fits a.kind)) (λ _. omega (arith, category-fits a.kind)))
     (λ _. omega arith) where
       category-fits : (kind : ℕ) → category kind ≤ 192
-      category-fits kind = cond_both (eqb kind 4) 128 (cond (ltb kind 7) 64 192) (λ (n : ℕ). n ≤ 192) (λ _. omega arith) (λ _. cond_both (ltb kind 7) 64 192 (λ (n : ℕ). n ≤ 192) (λ _. omega arith) (λ _. omega arith))
+      category-fits kind = (category-whole kind).1
 
 attribute_octets-All : (a : Attribute) → IsWritten a → HasOctets a → All (λ o. o < 256) (attribute_octets a)
 unfolding attribute_octets

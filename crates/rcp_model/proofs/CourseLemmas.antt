@@ -7,12 +7,14 @@ use Rattle.std.proofs.lemmas.Bool.{cases_Bool, cond_both, or_from, both_ways}
 use Rattle.std.proofs.lemmas.List.Folds.{list_any-append}
 use Rattle.std.proofs.lemmas.List.Elements.{All-append, All-drop}
 use Rattle.rcp_base.specs.IpPrefix.{IpPrefix}
+use Rattle.rcp_model.specs.Attributes.{number_width}
 use Rattle.rcp_model.specs.Messages.{FaultOf, fault, type_field, IsMessage, message_size, messages_in, rest_of}
 use Rattle.rcp_model.specs.Routes.{RouteFields, route_of}
 use Rattle.rcp_model.specs.Updates.{Changes, update_fault, changes_of}
 use Rattle.rcp_model.specs.Opens.{VERSION}
-use Rattle.rcp_model.specs.Rosters.{RosterOf}
-use Rattle.rcp_model.specs.Telling.{AreOctets, IsTold}
+use Rattle.rcp_base.specs.Roster.{RosterOf}
+use Rattle.rcp_base.specs.Octets.{AreOctets}
+use Rattle.rcp_model.specs.Telling.{IsTold}
 use Rattle.rcp_model.specs.Sessions.{Negotiated, Peering, Phase, OpenSent, Claiming, OpenConfirm, Established, Closed, is_closed, reads, SessionState, Ending, SessionEvent, Up, Announce, Withdraw, Doing, nothing, sending, telling, later_of, then_also, Step, step, failed, refused, notified, keepalive, opening_fault, negotiated, opened, changes_events, updated, read_at, handle, handle_all, with_fault, with_rest, course_of, LARGE_HOLD, has_passed, expired, timed, tick, Octets, Seat, Moment, End, Answer, moment_in, seat_taken, seated, claim_answered, answer, own_open, begun, seat_of, slot_in}
 use Rattle.rcp_base.proofs.CutLemmas.{cut-All}
 use Rattle.rcp_model.proofs.ReadingLemmas.{IsSize-message_size, IsMessage-message_octets}
@@ -216,7 +218,7 @@ no_up-announced route (p ∷ ps) = no_up-announced route ps
 
 no_up-changes : (as_number : ℕ) (changes : Changes) → list_any is_up (changes_events as_number changes) ≡ false
 no_up-changes as_number changes =
-    let route = route_of w16 as_number changes.attributes in
+    let route = route_of number_width as_number changes.attributes in
     list_any-append is_up (map Withdraw changes.withdrawn) (map (λ p. Announce p route) changes.announced)
     ∙ or_from (list_any is_up (map Withdraw changes.withdrawn)) (list_any is_up (map (λ p. Announce p route) changes.announced)) (no_up-withdrawn changes.withdrawn) (no_up-announced route changes.announced)
 
@@ -232,7 +234,7 @@ module _ (roster : RosterOf) (now : ℕ) where
     claim = λ slot e. (since, negotiated roster body, ap (λ (found : Option ℕ). Claiming since (unwrap_or found 0) (negotiated roster body)) e);
   }
 
-  goes-updated : (phase : Phase) (peering : Peering) (body : List ℕ) (found : Option FaultOf) → update_fault w16 body ≡ found → AreOctets body
+  goes-updated : (phase : Phase) (peering : Peering) (body : List ℕ) (found : Option FaultOf) → update_fault number_width body ≡ found → AreOctets body
       → seat_of phase ≡ Some peering.slot → slot_in phase ≡ Some peering.slot → GoesBy roster.as_number phase (updated roster peering body)
   goes-updated phase peering body (Some why) is octets seat slot = rw (is, updated) (goes-failed roster.as_number phase why)
   goes-updated phase peering body None is octets seat slot = rw (is, updated) record {
@@ -268,7 +270,7 @@ module _ (roster : RosterOf) (now : ℕ) where
       let other = cond (eqb (type_field message) 3) (notified (drop 19 message)) refused in
       let alive = step (Established (read_at now peering)) nothing in
       either roster.as_number (Established peering) (eqb (type_field message) 2) (updated roster (read_at now peering) (drop 19 message)) (cond (eqb (type_field message) 4) alive other)
-      (goes-updated (Established peering) (read_at now peering) (drop 19 message) (update_fault w16 (drop 19 message)) refl (All-drop (λ o. o < 256) 19 message octets) refl refl)
+      (goes-updated (Established peering) (read_at now peering) (drop 19 message) (update_fault number_width (drop 19 message)) refl (All-drop (λ o. o < 256) 19 message octets) refl refl)
       (either roster.as_number (Established peering) (eqb (type_field message) 4) alive other
       (goes-sent roster.as_number (Established peering) (Established (read_at now peering)) [] refl refl refl tt)
       (goes-otherwise (Established peering) message))

@@ -6,9 +6,9 @@ use Rattle.std.specs.Int.{Width}
 use Rattle.std.proofs.lemmas.Bool.{cond_both, eqb-false, or_parts, or_from, and_from, and_left, and_right, false≢true}
 use Rattle.rcp_base.specs.Cut.{cut}
 use Rattle.rcp_model.specs.Messages.{FaultOf, fault}
-use Rattle.rcp_model.specs.Attributes.{Attribute, ORIGIN, AS_PATH, NEXT_HOP, LOCAL_PREF, is_recognised, is_optional, is_transitive, is_partial, category, attribute_size, attribute_of, attributes_in, value_of, value_fault, has_faulty_value, has_other_category, has_other_length, attribute_fault, or_else, list_fault, missing_fault, attributes_fault, has_route, is_kept, written, insert_by_type, by_type, default_pref, with_pref, canonical, attribute_octets, canonical_octets}
+use Rattle.rcp_model.specs.Attributes.{Attribute, ORIGIN, AS_PATH, NEXT_HOP, LOCAL_PREF, is_recognised, is_optional, is_transitive, is_partial, category, keeps_partial, attribute_size, attribute_of, attributes_in, value_of, value_fault, has_faulty_value, has_other_category, has_other_length, attribute_fault, or_else, list_fault, missing_fault, attributes_fault, has_route, is_kept, written, insert_by_type, by_type, default_pref, with_pref, canonical, attribute_octets, canonical_octets}
 use Rattle.rcp_model.proofs.FaultLemmas.{HasPassed, all_passed, first_failing-None, or_else-None}
-use Rattle.rcp_model.proofs.CanonicalLemmas.{IsWritten, IsCanonical-canonical, insert-All, by_type-All, with_pref-All, flags-plain, kind-read_back, kept-read_back, cut-written}
+use Rattle.rcp_model.proofs.CanonicalLemmas.{IsWritten, category-whole, IsCanonical-canonical, insert-All, by_type-All, with_pref-All, flags-plain, kind-read_back, kept-read_back, cut-written}
 use Rattle.rcp_model.proofs.RouteLemmas.{value_again}
 use Rattle.rcp_model.proofs.AttributeLemmas.{IsShort, IsShort-attributes_in, read_back, attribute_of-attribute_octets}
 
@@ -153,13 +153,8 @@ kept_optional false false transitive e = absurd (false≢true e)
 
 written_range : (a : Attribute) → is_recognised a.kind ≡ true → (category a.kind ≤ (written a).flags) × ((written a).flags ≤ category a.kind + 32)
 written_range a known =
-    let flags : (written a).flags ≡ category a.kind + cond (leb 7 a.kind && is_partial a.flags) 32 0 = rw known refl in
-    rw flags (cond_both (leb 7 a.kind && is_partial a.flags) 32 0 (λ (n : ℕ). (category a.kind ≤ category a.kind + n) × (category a.kind + n ≤ category a.kind + 32)) (λ _. (omega arith, omega arith)) (λ _. (omega arith, omega arith)))
-
-category-whole : (kind : ℕ) → (category kind % 64 ≡ 0) × (category kind ≤ 192)
-category-whole kind =
-    cond_both (eqb kind 4) 128 (cond (ltb kind 7) 64 192) (λ (n : ℕ). (n % 64 ≡ 0) × (n ≤ 192)) (λ _. (refl, omega arith))
-    (λ _. cond_both (ltb kind 7) 64 192 (λ (n : ℕ). (n % 64 ≡ 0) × (n ≤ 192)) (λ _. (refl, omega arith)) (λ _. (refl, omega arith)))
+    let flags : (written a).flags ≡ category a.kind + cond (keeps_partial a.kind && is_partial a.flags) 32 0 = rw known refl in
+    rw flags (cond_both (keeps_partial a.kind && is_partial a.flags) 32 0 (λ (n : ℕ). (category a.kind ≤ category a.kind + n) × (category a.kind + n ≤ category a.kind + 32)) (λ _. (omega arith, omega arith)) (λ _. (omega arith, omega arith)))
 
 category_stays : (c flags : ℕ) → c % 64 ≡ 0 → c ≤ 192 → c ≤ flags → flags ≤ c + 48 → flags / 64 % 4 ≡ c / 64
 category_stays c flags whole small low high = omega arith

@@ -4,8 +4,9 @@ use Rattle.std.specs.List.{concat, AllByRecursion}
 use Rattle.std.proofs.lemmas.Bool.{cases_Bool, cond_both}
 use Rattle.std.proofs.lemmas.List.Elements.{All-append, All-drop, All-nil, All-same}
 use Rattle.rcp_model.specs.Messages.{FaultOf, message_size, messages_in, rest_of}
-use Rattle.rcp_model.specs.Rosters.{RosterOf}
-use Rattle.rcp_model.specs.Telling.{AreOctets, BringsOctets, IsTold}
+use Rattle.rcp_base.specs.Roster.{RosterOf}
+use Rattle.rcp_base.specs.Octets.{AreOctets}
+use Rattle.rcp_model.specs.Telling.{BringsOctets, IsTold}
 use Rattle.rcp_model.specs.Sessions.{Phase, OpenSent, Claiming, OpenConfirm, Established, Closed, is_closed, reads, SessionState, Doing, nothing, Step, step, handle, handle_all, fault_in_front, with_fault, with_rest, course_of, tick, Input, Octets, Seat, Moment, End, Answer, moment_in, stepped, seat_taken, claim_answered, shut, answer}
 use Rattle.rcp_base.proofs.CutLemmas.{cut-All, cut-whole}
 use Rattle.rcp_model.proofs.ReadingLemmas.{IsSize-message_size}

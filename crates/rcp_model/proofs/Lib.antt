@@ -1,4 +1,3 @@
-pub use Rattle.rcp_base.proofs.MapLemmas
 pub mod FaultLemmas
 pub mod ReadingLemmas
 pub mod SectionLemmas

@@ -2,12 +2,12 @@
 use Rattle.std.proofs.Common.{◌≡◌, ℕ, zero, suc, ◌<◌, ◌≤◌, Bool, true, false, not, ◌||◌, eqb, ltb, List, [], ◌∷◌, length, Option, Some, None, refl, sym, ap, ◌∙◌, inl, inr, arith}
 use Rattle.std.specs.Prelude.{filter}
 use Rattle.std.specs.List.{list_any, AllByRecursion}
-use Rattle.std.specs.Int.{w16}
 use Rattle.std.proofs.lemmas.Bool.{cases_Bool, and_parts, or_parts, or_left, or_right, eqb-true, eq-eqb, ltb-true, ltb-false, both_ways}
 use Rattle.rcp_base.specs.IpPrefix.{IpPrefix}
 use Rattle.rcp_base.specs.declared.names.Member.{Member}
-use Rattle.rcp_model.specs.declared.event.Edge.{Edge}
-use Rattle.rcp_model.specs.Maps.{same_prefix, is_among}
+use Rattle.rcp_base.specs.declared.names.Edge.{Edge}
+use Rattle.rcp_base.specs.Maps.{same_prefix, is_among}
+use Rattle.rcp_model.specs.Attributes.{number_width}
 use Rattle.rcp_model.specs.Routes.{route_in, is_usable}
 use Rattle.rcp_model.specs.Decision.{Contender, tied, is_nearer, nearest, choice}
 use Rattle.rcp_model.specs.RouteServer.{Domain, Announced, Announcements, Server, Links, same_place, announced_by, announced_at, announced_prefixes, router_at, slot_cost, announcement_contender, cons_some, candidates_from, candidates, choice_of, unless_own, offer, same_cost, cost_differs, moved, after}
@@ -38,7 +38,7 @@ module _ (f g : ℕ → Option ℕ) where
     first-cost slot id None cost_to list is h = h
     first-cost slot id (Some octets) None list is h = h
     first-cost slot id (Some octets) (Some reached) list is h =
-        elim (cases_Bool (is_usable (route_in w16 domain.as_number octets))) [
+        elim (cases_Bool (is_usable (route_in number_width domain.as_number octets))) [
           | inl u ↦ rw u (same slot octets is, h)
           | inr u ↦ rw u h
         ]

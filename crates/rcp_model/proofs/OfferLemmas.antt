@@ -2,11 +2,10 @@
 use Rattle.std.proofs.Common.{◌≡◌, ℕ, suc, ◌≤◌, Bool, true, false, eqb, List, [], ◌∷◌, length, Option, Some, None, refl, sym, subst, ◌∙◌, inl, inr}
 use Rattle.std.specs.Prelude.{filter}
 use Rattle.std.specs.List.{list_any, AllByRecursion}
-use Rattle.std.specs.Int.{w16}
 use Rattle.std.proofs.lemmas.Bool.{cases_Bool, and_parts, or_cases, eqb-true, not-true, ltb-false}
 use Rattle.rcp_base.specs.declared.names.Member.{Member}
-use Rattle.rcp_model.specs.declared.event.Edge.{Edge}
-use Rattle.rcp_model.specs.Attributes.{canonical_octets, attributes_in}
+use Rattle.rcp_base.specs.declared.names.Edge.{Edge}
+use Rattle.rcp_model.specs.Attributes.{canonical_octets, attributes_in, number_width}
 use Rattle.rcp_model.specs.Routes.{route_of, route_in, is_usable, is_long}
 use Rattle.rcp_model.specs.Decision.{Contender, tied, is_of, is_nearer, nearest, choice}
 use Rattle.rcp_model.specs.RouteServer.{Domain, Announced, announcement_contender, cons_some, candidates_from, candidates, slot_cost, choice_of, unless_own, offer}
@@ -79,7 +78,7 @@ choice-keeps Q slot cost list e h is =
 abbrev Fits : Announced → ℕ → Type 0
 Fits announced slot = (octets : List ℕ) → announced slot ≡ Some octets → length octets ≤ 4068
 
-usable-fits : (as_number : ℕ) (octets : List ℕ) → canonical_octets (attributes_in octets) ≡ octets → is_usable (route_in w16 as_number octets) ≡ true → length octets ≤ 4068
+usable-fits : (as_number : ℕ) (octets : List ℕ) → canonical_octets (attributes_in octets) ≡ octets → is_usable (route_in number_width as_number octets) ≡ true → length octets ≤ 4068
 unfolding route_of
 usable-fits as_number octets canonical_is usable =
     let parts = and_parts _ _ usable in
@@ -95,7 +94,7 @@ contender-fits : (domain : Domain) (announced : Announced) (slot id : ℕ) (foun
 contender-fits domain announced slot id None cost_to list is canonical_is h = h
 contender-fits domain announced slot id (Some octets) None list is canonical_is h = h
 contender-fits domain announced slot id (Some octets) (Some reached) list is canonical_is h =
-    elim (cases_Bool (is_usable (route_in w16 domain.as_number octets))) [
+    elim (cases_Bool (is_usable (route_in number_width domain.as_number octets))) [
       | inl u ↦ rw u (
         (λ other other_is.
             let same : Some octets ≡ Some other = sym is ∙ other_is in

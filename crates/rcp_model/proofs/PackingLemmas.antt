@@ -10,7 +10,7 @@ use Rattle.std.proofs.lemmas.List.Kept.{AllPairs-cons, AllPairs-filter}
 use Rattle.std.proofs.lemmas.Option.{none-some, same_Some}
 use Rattle.std.proofs.lemmas.Slice.Eq.{bytes_eq-Decides}
 use Rattle.rcp_base.specs.IpPrefix.{IpPrefix, IsPrefix, prefix_octets, octets_for}
-use Rattle.rcp_model.specs.Maps.{get_at, put_at, without, same_prefix, is_before, is_among}
+use Rattle.rcp_base.specs.Maps.{get_at, put_at, without, same_prefix, is_before, is_among}
 use Rattle.rcp_model.specs.Messages.{IsMessage}
 use Rattle.rcp_model.specs.Updates.{Table, withdraw_all, announce_all, after_message, after_messages}
 use Rattle.rcp_model.specs.Cells.{Cell, IsSendable, AreCells, value_after, Carries}

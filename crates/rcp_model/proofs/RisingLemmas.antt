@@ -4,7 +4,7 @@ use Rattle.std.specs.List.{AllByRecursion}
 use Rattle.std.proofs.lemmas.Bool.{cases_Bool, or_from}
 use Rattle.std.proofs.lemmas.Bool.Decides.{nat_tests}
 use Rattle.rcp_base.specs.IpPrefix.{IpPrefix}
-use Rattle.rcp_model.specs.Maps.{same_prefix, is_before, include, include_all, is_among}
+use Rattle.rcp_base.specs.Maps.{same_prefix, is_before, include, include_all, is_among}
 use Rattle.rcp_model.specs.Rising.{IsBelow, IsRising}
 use Rattle.rcp_model.proofs.OfferLemmas.{filter-keeps}
 

@@ -4,8 +4,8 @@ use Rattle.std.specs.Prelude.{filter}
 use Rattle.std.specs.List.{AllByRecursion}
 use Rattle.std.proofs.lemmas.Bool.{cases_Bool, and_parts, and_from, and_right, or_parts, or_from, or_left, or_right, eqb-true, eq-eqb, both_ways}
 use Rattle.rcp_base.specs.IpPrefix.{IpPrefix, IsPrefix}
-use Rattle.rcp_model.specs.declared.event.Edge.{Edge}
-use Rattle.rcp_model.specs.Maps.{get_at, put_at, set_at, same_prefix, is_before, include, include_all, is_among}
+use Rattle.rcp_base.specs.declared.names.Edge.{Edge}
+use Rattle.rcp_base.specs.Maps.{get_at, put_at, set_at, same_prefix, is_before, include, include_all, is_among}
 use Rattle.rcp_model.specs.Attributes.{canonical_octets, attributes_in}
 use Rattle.rcp_model.specs.Updates.{Table}
 use Rattle.rcp_model.specs.LinkState.{same_number}

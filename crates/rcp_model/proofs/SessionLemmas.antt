@@ -4,7 +4,7 @@ use Rattle.std.specs.Prelude.{if◌then◌else◌}
 use Rattle.std.specs.List.{concat}
 use Rattle.std.proofs.lemmas.Option.{none-some}
 use Rattle.rcp_model.specs.Messages.{FaultOf, header_fault, message_size, messages_in, rest_of}
-use Rattle.rcp_model.specs.Rosters.{RosterOf}
+use Rattle.rcp_base.specs.Roster.{RosterOf}
 use Rattle.rcp_model.specs.Sessions.{Phase, OpenSent, Claiming, OpenConfirm, Established, Closed, is_closed, reads, SessionState, Doing, nothing, later_of, then_also, failed, handle, handle_all, Course, fault_in_front, with_fault, with_rest, course_of, Input, Octets, Seat, Moment, End, Answer, moment_in, answered, stepped, claim_answered, tick, shut, answer, answers}
 use Rattle.rcp_base.proofs.CutLemmas.{cut-stop}
 use Rattle.rcp_model.proofs.ReadingLemmas.{header_fault-append, message_size-Some, message_size-None, IsMessage-seen, IsReading-cut, messages_in-cons, messages_in-later}

@@ -1,16 +1,16 @@
 -- What is told of a router: of octets, a faultless UPDATE gives prefixes in form, and a route that is that of its canonical octets.
 use Rattle.std.proofs.Common.{◌≡◌, ℕ, ◌<◌, not, ◌&&◌, List, [], ◌∷◌, map, drop, Option, Some, None, refl, sym, subst}
 use Rattle.std.specs.List.{All, AllByRecursion}
-use Rattle.std.specs.Int.{w16}
 use Rattle.std.proofs.lemmas.List.Elements.{All-take, All-drop}
 use Rattle.std.proofs.lemmas.Option.{none-some, cond_some}
 use Rattle.rcp_base.specs.IpPrefix.{IpPrefix, IsPrefix}
-use Rattle.rcp_model.specs.Maps.{is_among}
-use Rattle.rcp_model.specs.Attributes.{Attribute}
+use Rattle.rcp_base.specs.Maps.{is_among}
+use Rattle.rcp_model.specs.Attributes.{Attribute, number_width}
 use Rattle.rcp_model.specs.Routes.{RouteFields, route_of}
 use Rattle.rcp_model.specs.Updates.{Sections, Changes, section, after_section, has_section, sections_of, prefixes_in, update_fault, changes_of}
 use Rattle.rcp_model.specs.Sessions.{Announce, Withdraw, changes_events}
-use Rattle.rcp_model.specs.Telling.{AreOctets, IsRouteOf, IsTold}
+use Rattle.rcp_base.specs.Octets.{AreOctets}
+use Rattle.rcp_model.specs.Telling.{IsRouteOf, IsTold}
 use Rattle.rcp_model.proofs.AttributeLemmas.{IsShort, IsShort-attributes_in}
 use Rattle.rcp_model.proofs.CanonicalLemmas.{canonical_octets_again}
 use Rattle.rcp_model.proofs.OfferLemmas.{filter-keeps}
@@ -43,7 +43,7 @@ record AreInForm (changes : Changes) : Type 0 where
   announced : AllByRecursion IsPrefix changes.announced
   short : AllByRecursion IsShort changes.attributes
 
-by_sections : (body : List ℕ) (found : Option Sections) → All (λ o. o < 256) body → sections_of body ≡ found → update_fault w16 body ≡ None → AreInForm (changes_of body)
+by_sections : (body : List ℕ) (found : Option Sections) → All (λ o. o < 256) body → sections_of body ≡ found → update_fault number_width body ≡ None → AreInForm (changes_of body)
 unfolding changes_of update_fault
 by_sections body None all is faultless = absurd (some_none (rw (is, update_fault) at faultless)) where
   some_none : {A : Type 0} {f : A} → Some f ≡ None → ⊥
@@ -66,16 +66,16 @@ told-announced : (as_number : ℕ) (route : RouteFields) (ps : List IpPrefix) �
 told-announced as_number route [] is each = tt
 told-announced as_number route (p ∷ ps) is each = ((each.0, is), told-announced as_number route ps is each.1)
 
-route-of_octets : (as_number : ℕ) (list : List Attribute) → AllByRecursion IsShort list → IsRouteOf as_number (route_of w16 as_number list)
+route-of_octets : (as_number : ℕ) (list : List Attribute) → AllByRecursion IsShort list → IsRouteOf as_number (route_of number_width as_number list)
 unfolding route_of
-route-of_octets as_number list short = record { fields = sym (route_again list short w16 as_number); canonical = canonical_octets_again list short }
+route-of_octets as_number list short = record { fields = sym (route_again list short number_width as_number); canonical = canonical_octets_again list short }
 
 -- what the octets of a faultless UPDATE tell
-pub told-changes : (as_number : ℕ) (body : List ℕ) → AreOctets body → update_fault w16 body ≡ None → AllByRecursion (IsTold as_number) (changes_events as_number (changes_of body))
+pub told-changes : (as_number : ℕ) (body : List ℕ) → AreOctets body → update_fault number_width body ≡ None → AllByRecursion (IsTold as_number) (changes_events as_number (changes_of body))
 told-changes as_number body all faultless =
     let changes = changes_of body in
     let form = by_sections body (sections_of body) all refl faultless in
-    let route = route_of w16 as_number changes.attributes in
+    let route = route_of number_width as_number changes.attributes in
     all-append (IsTold as_number) (map Withdraw changes.withdrawn) (map (λ p. Announce p route) changes.announced)
     (told-withdrawn as_number changes.withdrawn form.withdrawn)
     (told-announced as_number route changes.announced (route-of_octets as_number changes.attributes form.short) form.announced)

@@ -2,7 +2,7 @@
 use Rattle.std.specs.Prelude.{◌≡◌, ℕ, Bool, true, false, List, Option, Some, None, IsSome, MatchOption}
 use Rattle.std.specs.declared.cmp.Ordering.TheVariants.{Less}
 use Rattle.rcp_base.specs.IpPrefix.{IpPrefix, prefix_cmp}
-use Rattle.rcp_model.specs.declared.event.Edge.{Edge}
+use Rattle.rcp_base.specs.declared.names.Edge.{Edge}
 use Rattle.rcp_model.specs.Costs.{IsTwoWay}
 use Rattle.rcp_model.specs.Graphs.{IsGraph, AreMembers}
 use Rattle.rcp_model.specs.RouteServer.{Domain, Announced, offer}

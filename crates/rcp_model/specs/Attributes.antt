@@ -1,6 +1,6 @@
 -- Path attributes (RFC 4271 sections 4.3 and 5, RFC 1997): how they are read, the first fault of a list of them
 -- (section 6.3), and their canonical octets. AS numbers have a width, which is a parameter.
-use Rattle.std.specs.Prelude.{ℕ, ◌+◌, ◌*◌, ◌/◌, ◌%◌, Bool, false, not, ◌&&◌, ◌||◌, ◌==◌, List, [], ◌∷◌, ◌++◌, length, take, drop, map, filter, slice_index, Option, Some, None, is_some, is_none, nat_lt, nat_le, if◌then◌else◌}
+use Rattle.std.specs.Prelude.{ℕ, ◌+◌, ◌*◌, ◌/◌, ◌%◌, Bool, true, false, not, ◌&&◌, ◌||◌, ◌==◌, List, [], ◌∷◌, ◌++◌, length, take, drop, map, filter, slice_index, Option, Some, None, is_some, is_none, nat_lt, nat_le, if◌then◌else◌}
 use Rattle.std.specs.List.{list_any, flat_map}
 use Rattle.std.specs.Int.{Width, w16, byte_len, to_be_bytes, from_be_bytes}
 use Rattle.rcp_base.specs.Cut.{cut}
@@ -38,6 +38,10 @@ AGGREGATOR = 7
 abbrev pub COMMUNITIES : ℕ
 COMMUNITIES = 8
 
+-- How wide an AS number is in AS_PATH and AGGREGATOR: two octets (section 4.3).
+abbrev pub number_width : Width
+number_width = w16
+
 -- whether the flag of this weight is set
 abbrev pub has_flag : ℕ → ℕ → Bool
 has_flag weight flags = flags / weight % 2 == 1
@@ -54,20 +58,69 @@ is_partial flags = has_flag 32 flags
 abbrev pub is_extended : ℕ → Bool
 is_extended flags = has_flag 16 flags
 
+-- ---- the recognised types
+
+-- A recognised type: its optional and transitive flags, the length of its value where that is fixed, for a width of AS
+-- numbers, and whether the partial flag is sent on as it was read.
+pub record AttributeType : Type 0 where
+  pub kind : ℕ
+  pub category : ℕ
+  pub fixed : Width → Option ℕ
+  pub keeps_partial : Bool
+
+-- the optional and transitive flags (section 4.3): transitive alone on what is well-known
+abbrev well_known : ℕ
+well_known = 64
+
+abbrev optional : ℕ
+optional = 128
+
+abbrev optional_transitive : ℕ
+optional_transitive = 192
+
+-- a value of any length, of so many octets, or of an AS number and an address
+abbrev any : Width → Option ℕ
+any width = None
+
+abbrev octets : ℕ → Width → Option ℕ
+octets count width = Some count
+
+abbrev number_and_address : Width → Option ℕ
+number_and_address width = Some (byte_len width + 4)
+
+abbrev row : ℕ → ℕ → (Width → Option ℕ) → Bool → AttributeType
+row kind category fixed keeps_partial = record { kind = kind; category = category; fixed = fixed; keeps_partial = keeps_partial }
+
+abbrev pub attribute_types : List AttributeType
+attribute_types =
+    row ORIGIN well_known (octets 1) false
+    ∷ row AS_PATH well_known any false
+    ∷ row NEXT_HOP well_known (octets 4) false
+    ∷ row MULTI_EXIT_DISC optional (octets 4) false
+    ∷ row LOCAL_PREF well_known (octets 4) false
+    ∷ row ATOMIC_AGGREGATE well_known (octets 0) false
+    ∷ row AGGREGATOR optional_transitive number_and_address true
+    ∷ row COMMUNITIES optional_transitive any true
+    ∷ []
+
+-- what a row says of a type, or this where there is no row of it
+abbrev pub in_row : {A : Type 0} → (AttributeType → A) → A → ℕ → List AttributeType → A
+in_row says none kind [] = none
+in_row says none kind (row ∷ rows) = if kind == row.kind then says row else in_row says none kind rows
+
 abbrev pub is_recognised : ℕ → Bool
-is_recognised kind = not (is_outside ORIGIN COMMUNITIES kind)
+is_recognised kind = in_row (λ row. true) false kind attribute_types
 
 -- the optional and transitive flags of a recognised type, as flags
 abbrev pub category : ℕ → ℕ
-category kind = if kind == MULTI_EXIT_DISC then 128 else (if nat_lt kind AGGREGATOR then 64 else 192)
+category kind = in_row (λ row. row.category) 0 kind attribute_types
 
 -- the length of a recognised type's value, where it is fixed
 abbrev pub fixed_length : Width → ℕ → Option ℕ
-fixed_length width kind =
-    if kind == ORIGIN then Some 1 else (
-    if kind == NEXT_HOP || kind == MULTI_EXIT_DISC || kind == LOCAL_PREF then Some 4 else (
-    if kind == ATOMIC_AGGREGATE then Some 0 else (
-    if kind == AGGREGATOR then Some (byte_len width + 4) else None)))
+fixed_length width kind = in_row (λ row. row.fixed width) None kind attribute_types
+
+abbrev pub keeps_partial : ℕ → Bool
+keeps_partial kind = in_row (λ row. row.keeps_partial) false kind attribute_types
 
 -- ---- attributes in octets
 
@@ -206,11 +259,12 @@ has_route attributes = is_some (value_of ORIGIN attributes) && is_some (value_of
 abbrev pub is_kept : Attribute → Bool
 is_kept a = is_recognised a.kind || is_optional a.flags && is_transitive a.flags
 
--- The flags that are written, without that of the length: partial as read on AGGREGATOR and COMMUNITIES, always set on an unrecognised type.
+-- The flags that are written, without that of the length: partial as read where the type keeps it, always set on an
+-- unrecognised type.
 abbrev pub written_flags : Attribute → ℕ
 written_flags a =
     if is_recognised a.kind
-    then category a.kind + (if nat_le AGGREGATOR a.kind && is_partial a.flags then 32 else 0)
+    then category a.kind + (if keeps_partial a.kind && is_partial a.flags then 32 else 0)
     else 224
 
 abbrev pub written : Attribute → Attribute

@@ -1,7 +1,7 @@
 -- Interior costs: the least sum over all walks of edges, and partitions.
 use Rattle.std.specs.Prelude.{◌≡◌, ℕ, ◌+◌, ◌≤◌, Bool, ◌&&◌, ◌==◌, List, [], ◌∷◌, min, Contains, Option, Some, None, is_some, MatchOption, if◌then◌else◌}
 use Rattle.std.specs.List.{list_any}
-use Rattle.rcp_model.specs.declared.event.Edge.{Edge}
+use Rattle.rcp_base.specs.declared.names.Edge.{Edge}
 
 -- a walk of edges from u to v, whose costs add up to the sum
 pub data Walk (edges : List Edge) : ℕ → ℕ → ℕ → Type 0 where

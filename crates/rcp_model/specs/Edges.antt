@@ -1,7 +1,7 @@
 -- The edges of the interior network (RFC 2328 section 16.1): what the link state and the roster give.
 use Rattle.std.specs.Prelude.{ℕ, Bool, ◌&&◌, ◌||◌, ◌==◌, List, [], ◌∷◌, ◌++◌, min, Option, Some, None, is_some, nat_lt, if◌then◌else◌}
 use Rattle.std.specs.List.{flat_map}
-use Rattle.rcp_model.specs.declared.event.Edge.{Edge}
+use Rattle.rcp_base.specs.declared.names.Edge.{Edge}
 use Rattle.rcp_model.specs.LinkState.{RouterLink, Kept, LinkState}
 
 -- the link type of a point-to-point link to another router (section 12.4.1.1)

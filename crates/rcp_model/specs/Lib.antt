@@ -1,4 +1,3 @@
-pub use Rattle.rcp_base.specs.Maps
 pub mod Rising
 pub mod Messages
 pub mod Opens
@@ -15,7 +14,6 @@ pub mod Graphs
 pub mod Decision
 pub mod RouteServer
 pub mod Assigned
-pub mod Rosters
 pub mod Sessions
 pub mod Telling
 pub mod Ribs

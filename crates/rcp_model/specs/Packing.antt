@@ -3,7 +3,7 @@
 use Rattle.std.specs.Prelude.{◌≡◌, ℕ, ◌≤◌, Bool, true, false, not, List, [], ◌∷◌, ◌++◌, length, take, map, filter, flat_map, Option, Some, None, nat_le, if◌then◌else◌, bytes_eq, All, AllPairs, IsTrue}
 use Rattle.std.specs.List.{AllByRecursion}
 use Rattle.rcp_base.specs.IpPrefix.{IpPrefix}
-use Rattle.rcp_model.specs.Maps.{is_before}
+use Rattle.rcp_base.specs.Maps.{is_before}
 use Rattle.rcp_model.specs.Updates.{update_octets}
 use Rattle.rcp_model.specs.Cells.{Cell}
 

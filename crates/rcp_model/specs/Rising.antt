@@ -2,7 +2,7 @@
 use Rattle.std.specs.Prelude.{◌≡◌, true, List, [], ◌∷◌}
 use Rattle.std.specs.List.{AllByRecursion}
 use Rattle.rcp_base.specs.IpPrefix.{IpPrefix}
-use Rattle.rcp_model.specs.Maps.{is_before}
+use Rattle.rcp_base.specs.Maps.{is_before}
 
 -- the prefix is before each of these
 abbrev pub IsBelow : IpPrefix → List IpPrefix → Type 0

@@ -1,10 +1,10 @@
 -- The route control server: what is announced, what is pending, and what each router was given.
 use Rattle.std.specs.Prelude.{◌≡◌, ℕ, zero, suc, Bool, true, false, not, ◌&&◌, ◌||◌, ◌==◌, List, [], ◌∷◌, length, map, filter, Option, Some, None, is_some, IsSome, slice_get, if◌then◌else◌, bytes_eq}
-use Rattle.std.specs.Int.{w16}
 use Rattle.rcp_base.specs.IpPrefix.{IpPrefix}
 use Rattle.rcp_base.specs.declared.names.Member.{Member}
-use Rattle.rcp_model.specs.declared.event.Edge.{Edge}
-use Rattle.rcp_model.specs.Maps.{get_at, put_at, set_at, without, same_prefix, include, include_all, is_among}
+use Rattle.rcp_base.specs.declared.names.Edge.{Edge}
+use Rattle.rcp_base.specs.Maps.{get_at, put_at, set_at, without, same_prefix, include, include_all, is_among}
+use Rattle.rcp_model.specs.Attributes.{number_width}
 use Rattle.rcp_model.specs.Routes.{RouteFields, route_in, is_usable}
 use Rattle.rcp_model.specs.Updates.{Table}
 use Rattle.rcp_model.specs.LinkState.{same_number}
@@ -93,7 +93,7 @@ contender_of slot id route (Some reached) = if is_usable route then Some (conten
 
 abbrev pub announcement_contender : Domain → ℕ → ℕ → Option (List ℕ) → Option ℕ → Option Contender
 announcement_contender domain slot id None cost_to = None
-announcement_contender domain slot id (Some octets) cost_to = contender_of slot id (route_in w16 domain.as_number octets) cost_to
+announcement_contender domain slot id (Some octets) cost_to = contender_of slot id (route_in number_width domain.as_number octets) cost_to
 
 abbrev pub cons_some : Option Contender → List Contender → List Contender
 cons_some None list = list
@@ -117,9 +117,9 @@ pub record IsCandidate (domain : Domain) (announced : Announced) (edges : List E
   pub seat : slice_get domain.members a.slot ≡ Some member
   pub octets : List ℕ
   pub is_announced : announced a.slot ≡ Some octets
-  pub usable : is_usable (route_in w16 domain.as_number octets) ≡ true
+  pub usable : is_usable (route_in number_width domain.as_number octets) ≡ true
   pub reached : IsSome (slot_cost edges domain.members slot a.slot)
-  pub compared : a ≡ contender a.slot member.bgp_id (route_in w16 domain.as_number octets)
+  pub compared : a ≡ contender a.slot member.bgp_id (route_in number_width domain.as_number octets)
 
 -- the slot whose announcement a slot chooses
 unfoldable pub choice_of : Domain → Announced → List Edge → ℕ → Option ℕ

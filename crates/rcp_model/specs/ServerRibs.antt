@@ -2,15 +2,15 @@
 -- it, and what the server of lists comes to. What is announced is any value that a route is read from: the octets of its attributes,
 -- or the route itself.
 use Rattle.std.specs.Prelude.{◌≡◌, ℕ, suc, Bool, true, false, not, ◌&&◌, ◌==◌, List, [], ◌∷◌, map, length, Option, Some, None, if◌then◌else◌, refl, bytes_eq}
-use Rattle.std.specs.Int.{w16}
 use Rattle.std.specs.Coded.{Coded, code_by, coded×, coded_ℕ, coded_list}
 use Rattle.std.specs.FinMap as map_of
 use Rattle.std.specs.FinSet as set_of
 use Rattle.std.specs.Ordering.{nat_cmp}
 use Rattle.rcp_base.specs.IpPrefix.{IpPrefix, prefix_cmp}
 use Rattle.rcp_base.specs.declared.names.Member.{Member}
-use Rattle.rcp_model.specs.declared.event.Edge.{Edge}
-use Rattle.rcp_model.specs.Maps.{get_at, same_prefix}
+use Rattle.rcp_base.specs.declared.names.Edge.{Edge}
+use Rattle.rcp_base.specs.Maps.{get_at, same_prefix}
+use Rattle.rcp_model.specs.Attributes.{number_width}
 use Rattle.rcp_model.specs.Routes.{RouteFields, route_in}
 use Rattle.rcp_model.specs.Updates.{Table}
 use Rattle.rcp_model.specs.Decision.{Contender, choice}
@@ -44,7 +44,7 @@ pub record IsExact {V : Type 0} (same : V → V → Bool) : Type 0 where
 
 -- the octets of the attributes, of which the local AS makes a route
 abbrev pub octets_reader : Domain → Reader (List ℕ)
-octets_reader domain = record { members = domain.members; route = route_in w16 domain.as_number; same = bytes_eq }
+octets_reader domain = record { members = domain.members; route = route_in number_width domain.as_number; same = bytes_eq }
 
 abbrev pub same_bit : Bool → Bool → Bool
 same_bit a b = if a then b else not b

@@ -1,14 +1,14 @@
 -- Sessions (RFC 4271 sections 6 and 8): the states of a connection with a router, and what messages and moments do in them.
 use Rattle.std.specs.Prelude.{ℕ, ◌-◌, ◌/◌, Bool, true, false, ◌==◌, List, [], ◌∷◌, ◌++◌, length, drop, map, slice_index, position, min, max, Option, Some, None, unwrap_or, is_some, nat_le, if◌then◌else◌}
 use Rattle.std.specs.List.{concat}
-use Rattle.std.specs.Int.{w16}
 use Rattle.rcp_base.specs.IpPrefix.{IpPrefix}
 use Rattle.rcp_base.specs.declared.names.Member.{Member}
+use Rattle.rcp_model.specs.Attributes.{number_width}
 use Rattle.rcp_model.specs.Messages.{FaultOf, fault, header_fault, type_field, messages_in, rest_of, message_octets, notification_octets}
 use Rattle.rcp_model.specs.Opens.{open_fields, open_fault, open_octets}
 use Rattle.rcp_model.specs.Routes.{RouteFields, route_of}
 use Rattle.rcp_model.specs.Updates.{Changes, update_fault, changes_of}
-use Rattle.rcp_model.specs.Rosters.{RosterOf}
+use Rattle.rcp_base.specs.Roster.{RosterOf}
 
 -- ---- the states (section 8.2.2). Moments are in seconds.
 
@@ -183,10 +183,10 @@ opened roster since body = elim (opening_fault roster body) [
 -- what an UPDATE changes, in order
 abbrev pub changes_events : ℕ → Changes → List SessionEvent
 changes_events as_number changes =
-    map Withdraw changes.withdrawn ++ map (λ p. Announce p (route_of w16 as_number changes.attributes)) changes.announced
+    map Withdraw changes.withdrawn ++ map (λ p. Announce p (route_of number_width as_number changes.attributes)) changes.announced
 
 abbrev pub updated : RosterOf → Peering → List ℕ → Step
-updated roster peering body = elim (update_fault w16 body) [
+updated roster peering body = elim (update_fault number_width body) [
   | Some why ↦ failed why
   | None ↦ step (Established peering) (telling (changes_events roster.as_number (changes_of body)))
 ]

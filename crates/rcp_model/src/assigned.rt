@@ -1,7 +1,6 @@
 use crate::costs::Costs;
-use crate::event::Edge;
 use crate::route::Route;
-use rcp_base::{Addr, Prefix, RouterId, Slot};
+use rcp_base::{Addr, Edge, Prefix, RouterId, Slot};
 
 /// What knows which routes the routers of a roster announce, and which it has given to each of them.
 ///
@@ -16,8 +15,8 @@ use rcp_base::{Addr, Prefix, RouterId, Slot};
 /// process of RFC 4271 section 9.1 offers it, or nothing.
 pub trait Assigned: Costs {
     ghost use Rattle.std.specs.Prelude.{◌≡◌, ◌<◌, ℕ, Bool, List, Option, Some, length, slice_get, option_map, IfSome};
-    ghost use Rattle.std.specs.Int.{w16};
     ghost use Rattle.rcp_base.specs.IpPrefix.{IpPrefix};
+    ghost use Rattle.rcp_model.specs.Attributes.{number_width};
     ghost use Rattle.rcp_model.specs.Routes.{route_in};
     ghost use Rattle.rcp_model.specs.RouteServer.{Announced};
     ghost use Rattle.rcp_model.specs.Assigned.{IsNextAnnounced, IsAssignment};
@@ -66,7 +65,7 @@ pub trait Assigned: Costs {
     fn announcement(&self, slot: Slot, p: Prefix) -> Option<&Route>
         requires { slot < length (Self.members self.now) }
         ensures attrs { option_map (λ route. route.now.attrs) result ≡ announced self.now p slot }
-        ensures fields { IfSome result (λ route. route.now ≡ route_in w16 (as_number self.now) route.now.attrs) };
+        ensures fields { IfSome result (λ route. route.now ≡ route_in number_width (as_number self.now) route.now.attrs) };
 
     /// The least prefix with an announcement after the given one, or the least of all. None where there is none.
     fn next_prefix(&self, after: Option<Prefix>) -> Option<Prefix>
@@ -81,7 +80,7 @@ pub trait Assigned: Costs {
     fn table(&self, slot: Slot, p: Prefix) -> Option<&Route>
         requires { slot < length (Self.members self.now) }
         ensures attrs { option_map (λ route. route.now.attrs) result ≡ given self.now p slot }
-        ensures fields { IfSome result (λ route. route.now ≡ route_in w16 (as_number self.now) route.now.attrs) };
+        ensures fields { IfSome result (λ route. route.now ≡ route_in number_width (as_number self.now) route.now.attrs) };
 
     /// The edge at this place, from 0, of all edges by `from`, then `to`, then `cost`. None past the last.
     fn edge(&self, place: u64) -> Option<Edge>

@@ -6,7 +6,7 @@ use rcp_base::Slot;
 pub trait Costs {
     ghost use Rattle.std.specs.Prelude.{◌≡◌, List};
     ghost use Rattle.rcp_base.specs.declared.names.Member.{Member};
-    ghost use Rattle.rcp_model.specs.declared.event.Edge.{Edge};
+    ghost use Rattle.rcp_base.specs.declared.names.Edge.{Edge};
     ghost use Rattle.rcp_model.specs.RouteServer.{slot_cost};
 
     /// The edges of the interior network.

@@ -1,13 +1,5 @@
 use crate::route::Route;
-use rcp_base::{Prefix, RouterId, Slot};
-
-/// A directed link of the interior network with its cost (RFC 2328 section 16.1).
-#[derive(Clone, Copy, Debug, PartialEq, Eq, PartialOrd, Ord)]
-pub struct Edge {
-    pub from: RouterId,
-    pub to: RouterId,
-    pub cost: u32,
-}
+use rcp_base::{Edge, Prefix, Slot};
 
 /// What one UPDATE says of one prefix: a route that is announced, or `None` for one that is withdrawn.
 #[derive(Debug, Drop)]

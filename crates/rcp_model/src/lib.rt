@@ -14,9 +14,10 @@ mod route_no;
 
 pub use assigned::Assigned;
 pub use costs::Costs;
-pub use event::{Change, Edge, Event};
+pub use event::{Change, Event};
 pub use lsa_fault::LsaFault;
 pub use octets::Octets;
 pub use offer::Offer;
+pub use rcp_base::Edge;
 pub use route::Route;
 pub use route_no::RouteNo;

@@ -8,7 +8,7 @@ use Rattle.rcp_base.specs.declared.kinds.FeedWhy.{FeedWhy}
 use Rattle.rcp_base.specs.declared.kinds.FeedWhy.TheVariants as why
 use Rattle.rcp_base.specs.declared.kinds.RosterWhy.{RosterWhy}
 use Rattle.rcp_base.specs.Feed.{FeedState, FeedRecord, Feed, IsRecord, is_roster, is_finish, has_length, record_octets, fault_of, fault_in_front, before_feeds, after, with_first, feed_of}
-use Rattle.rcp_model.specs.Rosters.{RosterOf, roster_in}
+use Rattle.rcp_base.specs.Roster.{RosterOf, roster_of}
 use Rattle.feed_meaning.specs.Platform.{Platform, fresh}
 use Rattle.feed_meaning.specs.WholeFeeds.{meaning_by, FeedMeaning, with_roster, meaning_of, whole_output}
 use Rattle.rcp_run.specs.Narrowing.{unread_fault, narrowed}
@@ -84,11 +84,11 @@ module _ (octets : List ℕ) (item : FeedRecord) (left now : Option (List ℕ)) 
   front = told_front (record_octets item) octets now (sym told ∙ given)
 
   meaning-more : (more : List ℕ) → narrowed (record_octets item ++ more)
-      ≡ with_roster unread_fault (with_first item (feed_of (after before_feeds item) more)) 1 (feed_of (after before_feeds item) more).items (roster_in item.body)
+      ≡ with_roster unread_fault (with_first item (feed_of (after before_feeds item) more)) 1 (feed_of (after before_feeds item) more).items (roster_of item.body)
   unfolding meaning_by
   meaning-more more = ap (λ (f : Feed). meaning_of unread_fault 1 f f.items) (again-more before_feeds item form lawful more (starts item lawful))
 
-  pub faulty_roster-ends : (line : ℕ) (why : RosterWhy) (taken : Option (List ℕ)) → roster_in item.body ≡ Err (record { line = line; why = why }) → Answers (status.Roster 1 line why) octets now taken taken
+  pub faulty_roster-ends : (line : ℕ) (why : RosterWhy) (taken : Option (List ℕ)) → roster_of item.body ≡ Err (record { line = line; why = why }) → Answers (status.Roster 1 line why) octets now taken taken
   faulty_roster-ends line why taken faulty =
       let meaning_is = ap narrowed front.2 ∙ meaning-more front.0
       ∙ ap (with_roster unread_fault (with_first item (feed_of (after before_feeds item) front.0)) 1 (feed_of (after before_feeds item) front.0).items) faulty in
@@ -98,7 +98,7 @@ module _ (octets : List ℕ) (item : FeedRecord) (left now : Option (List ℕ)) 
         written = wrote_none taken _ (ap whole_output meaning_is);
       }
 
-  module _ (roster : RosterOf) (is_read : roster_in item.body ≡ Ok roster) where
+  module _ (roster : RosterOf) (is_read : roster_of item.body ≡ Ok roster) where
     meaning-read : (more : List ℕ) → narrowed (record_octets item ++ more)
         ≡ with_roster unread_fault (with_first item (feed_of (after before_feeds item) more)) 1 (feed_of (after before_feeds item) more).items (Ok roster)
     meaning-read more = meaning-more more ∙ ap (with_roster unread_fault (with_first item (feed_of (after before_feeds item) more)) 1 (feed_of (after before_feeds item) more).items) is_read

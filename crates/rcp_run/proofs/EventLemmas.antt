@@ -4,7 +4,7 @@ use Rattle.std.specs.List.{AllByRecursion}
 use Rattle.std.proofs.lemmas.Bool.{cases_Bool, eqb-true, eq-eqb, not-false}
 use Rattle.std.proofs.lemmas.Slice.Eq.{bytes_eq-Decides}
 use Rattle.rcp_base.specs.IpPrefix.{IpPrefix}
-use Rattle.rcp_model.specs.Maps.{get_at, put_at, set_at, without, include, include_all}
+use Rattle.rcp_base.specs.Maps.{get_at, put_at, set_at, without, include, include_all}
 use Rattle.rcp_model.specs.LinkState.{same_number}
 use Rattle.rcp_model.specs.Updates.{Table}
 use Rattle.rcp_model.specs.RouteServer.{Domain, Place, Announcements, Server, ServerEvent, Up, Down, Change, same_place, same_octets, announced_by, announced_prefixes, of_slot, is_connected, after, after_all}

@@ -6,9 +6,9 @@ use Rattle.std.proofs.lemmas.Bool.{cases_Bool}
 use Rattle.std.proofs.lemmas.List.Elements.{All-drop, All-take}
 use Rattle.rcp_base.specs.Feed.{FeedState, FeedRecord, Feed, begins, is_finish, length_at, frame_size, before_feeds, after, front, feed_within, feed_of}
 use Rattle.rcp_base.specs.Roster.{FaultyLine}
-use Rattle.rcp_model.specs.Rosters.{RosterOf, roster_in}
+use Rattle.rcp_base.specs.Roster.{RosterOf, roster_of}
 use Rattle.feed_meaning.specs.Runs.{NumbersRise}
-use Rattle.rcp_model.specs.Telling.{AreOctets}
+use Rattle.rcp_base.specs.Octets.{AreOctets}
 use Rattle.feed_meaning.specs.WholeFeeds.{meaning_by, read_of, with_roster, meaning_of, HeadlineWritten}
 use Rattle.rcp_run.specs.Narrowing.{unread_fault, narrowed}
 use Rattle.rcp_run.proofs.FeedLemmas.{StandsInFront, stands, cases_front, within-last, within-more, within-fault, new_number}
@@ -98,7 +98,7 @@ roster_numbered feed items (Err fault) h = none_numbered 0
 meaning_numbered : (feed : Feed) (items : List FeedRecord) → AreNumbered 0 items → AreNumbered 0 (meaning_of unread_fault 1 feed items).items
 meaning_numbered feed [] h = h
 meaning_numbered feed (first ∷ items) h =
-    roster_numbered feed items (roster_in first.body)
+    roster_numbered feed items (roster_of first.body)
     (record { bodies = h.bodies.1; numbers = rises_below 0 (if begins first.kind then first.source else 0) items (omega arith) h.numbers.1 })
 
 pub headline_of : (octets written : List ℕ) → AreOctets octets → HeadlineWritten (narrowed octets) written

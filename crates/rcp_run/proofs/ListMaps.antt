@@ -6,7 +6,7 @@ use Rattle.std.proofs.Math.ListN.{set}
 use Rattle.std.proofs.lemmas.Bool.{cases_Bool, or_parts}
 use Rattle.std.proofs.lemmas.Iterator.Adapters.{position_from-zero}
 use Rattle.std.proofs.lemmas.List.Quantifiers.{position-Some}
-use Rattle.rcp_model.specs.Maps.{get_at, put_at, without}
+use Rattle.rcp_base.specs.Maps.{get_at, put_at, without}
 use Rattle.rcp_base.proofs.MapLemmas.{IsKeyTest}
 
 -- ---- the first place where a test passes

@@ -5,7 +5,7 @@ use Rattle.std.proofs.lemmas.Bool.{cases_Bool, eqb-true, true≢false}
 use Rattle.rcp_base.specs.declared.kinds.Kind.{Kind}
 use Rattle.rcp_base.specs.declared.kinds.Kind.TheVariants as kind
 use Rattle.rcp_base.specs.Feed.{FeedRecord, begins, moment_of}
-use Rattle.rcp_model.specs.Maps.{put_at, set_at, without}
+use Rattle.rcp_base.specs.Maps.{put_at, set_at, without}
 use Rattle.rcp_model.specs.LinkState.{same_number}
 use Rattle.rcp_model.specs.Sessions.{SessionState, Answer, Moment, End}
 use Rattle.feed_meaning.specs.LinkStream.{LinkStream, Reading, Lost}

@@ -8,8 +8,8 @@ use Rattle.rcp_base.specs.declared.kinds.Kind.{Kind}
 use Rattle.rcp_base.specs.declared.kinds.Kind.TheVariants as kind
 use Rattle.rcp_base.specs.declared.kinds.FeedWhy.TheVariants as why
 use Rattle.rcp_base.specs.Feed.{FeedRecord, moment_of, has_length}
-use Rattle.rcp_model.specs.Rosters.{RosterOf}
-use Rattle.rcp_model.specs.declared.event.Edge.{Edge}
+use Rattle.rcp_base.specs.Roster.{RosterOf}
+use Rattle.rcp_base.specs.declared.names.Edge.{Edge}
 use Rattle.rcp_model.specs.LinkState.{LinkState, aged}
 use Rattle.rcp_model.specs.Edges.{rising_edges, edges_of}
 use Rattle.rcp_model.specs.RouteServer.{Server, Links, after}

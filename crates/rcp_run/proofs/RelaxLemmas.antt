@@ -7,8 +7,8 @@ use Rattle.rcp_base.specs.declared.no_memory.NoMemory.{NoMemory}
 use Rattle.rcp_run.specs.declared.costs.Reached.{Reached}
 use Rattle.std.proofs.lemmas.Bool.Decides.{nat_tests}
 use Rattle.std.proofs.lemmas.Bool.{cases_Bool, and_parts, eqb-true, ltb-true, ltb-false, both_ways}
-use Rattle.rcp_model.specs.declared.event.Edge.{Edge}
-use Rattle.rcp_model.specs.Maps.{get_at, put_at}
+use Rattle.rcp_base.specs.declared.names.Edge.{Edge}
+use Rattle.rcp_base.specs.Maps.{get_at, put_at}
 use Rattle.rcp_model.specs.LinkState.{same_number}
 use Rattle.rcp_model.specs.Costs.{Walk, stay, step, cost}
 use Rattle.rcp_model.specs.Edges.{same_edge, is_edge_before, include_edge, rising_edges}

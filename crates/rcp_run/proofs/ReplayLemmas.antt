@@ -8,7 +8,7 @@ use Rattle.rcp_base.specs.declared.kinds.Kind.{Kind}
 use Rattle.rcp_base.specs.declared.kinds.Kind.TheVariants as kind
 use Rattle.rcp_base.specs.declared.kinds.FeedWhy.{FeedWhy}
 use Rattle.rcp_base.specs.Feed.{FeedState, FeedRecord, Feed, IsRecord, is_finish, frame_size, record_octets, out_octets, fault_of, after, feed_of}
-use Rattle.rcp_model.specs.Rosters.{RosterOf}
+use Rattle.rcp_base.specs.Roster.{RosterOf}
 use Rattle.feed_meaning.specs.Platform.{Platform}
 use Rattle.feed_meaning.specs.Runs.{act, all_output}
 use Rattle.feed_meaning.specs.WholeFeeds.{FaultyRecord, end_of, read_of}

@@ -5,7 +5,7 @@ use Rattle.std.proofs.Math.Seq.{drop-cons}
 use Rattle.std.proofs.lemmas.Bool.{cases_Bool, or_parts, or_cases, or_from, both_ways}
 use Rattle.std.proofs.lemmas.Bool.Decides.{nat_tests}
 use Rattle.rcp_base.specs.IpPrefix.{IpPrefix}
-use Rattle.rcp_model.specs.Maps.{same_prefix, is_before, include, include_all, is_among}
+use Rattle.rcp_base.specs.Maps.{same_prefix, is_before, include, include_all, is_among}
 use Rattle.rcp_model.specs.RouteServer.{announced_prefixes}
 use Rattle.rcp_base.proofs.MapLemmas.{same_prefix-is, same_prefix-itself}
 use Rattle.rcp_run.specs.declared.announcements.Announcement.{Announcement}

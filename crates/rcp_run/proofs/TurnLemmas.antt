@@ -5,12 +5,13 @@ use Rattle.std.proofs.lemmas.Bool.{cases_Bool, eqb-true, eq-eqb}
 use Rattle.std.proofs.lemmas.List.{map-append}
 use Rattle.rcp_model.proofs.ServerLemmas.{number_test}
 use Rattle.rcp_base.specs.Feed.{OutRecord}
-use Rattle.rcp_model.specs.Rosters.{RosterOf}
-use Rattle.rcp_model.specs.Maps.{set_at, without}
+use Rattle.rcp_base.specs.Roster.{RosterOf}
+use Rattle.rcp_base.specs.Maps.{set_at, without}
 use Rattle.rcp_model.specs.LinkState.{same_number}
 use Rattle.rcp_model.specs.RouteServer.{Domain, Server, after, after_all}
 use Rattle.rcp_model.specs.Sessions.{SessionState, Input, Octets, Seat, Moment, Answer, Doing, is_closed, then_also, answer, begun, begun_established, stepped, seat_taken, seat_of}
-use Rattle.rcp_model.specs.Telling.{AreOctets, BringsOctets, IsTold}
+use Rattle.rcp_base.specs.Octets.{AreOctets}
+use Rattle.rcp_model.specs.Telling.{BringsOctets, IsTold}
 use Rattle.feed_meaning.specs.Platform.{Connections, Platform, domain_of}
 use Rattle.feed_meaning.specs.SessionTurns.{Turn, turn, simple_turn, octets_turn, ready_turn, claim_turn, connection_at, if_open, is_slot, is_free, seat_events, turn_events, turn_output, after_turn, after_turns}
 use Rattle.feed_meaning.specs.OutRecords.{messages_to, end_record}

@@ -5,7 +5,7 @@ use Rattle.rcp_base.specs.declared.kinds.Kind.TheVariants as kind
 use Rattle.rcp_base.specs.declared.kinds.FeedWhy.{FeedWhy}
 use Rattle.rcp_base.specs.declared.kinds.FeedWhy.TheVariants as why
 use Rattle.rcp_base.specs.Feed.{FeedRecord}
-use Rattle.rcp_model.specs.Rosters.{RosterOf}
+use Rattle.rcp_base.specs.Roster.{RosterOf}
 use Rattle.feed_meaning.specs.WholeFeeds.{FeedMeaning, roster_fault, meaning_by}
 
 abbrev pub unread_kind : RosterOf → FeedRecord → Kind → Option FeedWhy

@@ -5,8 +5,8 @@ use Rattle.std.specs.List.{flat_map, AllByRecursion}
 use Rattle.rcp_base.specs.IpPrefix.{IpPrefix}
 use Rattle.rcp_base.specs.Feed.{OutRecord}
 use Rattle.rcp_base.specs.declared.names.Member.{Member}
-use Rattle.rcp_model.specs.Rosters.{RosterOf}
-use Rattle.rcp_model.specs.Maps.{get_at, set_at, same_prefix, is_before}
+use Rattle.rcp_base.specs.Roster.{RosterOf}
+use Rattle.rcp_base.specs.Maps.{get_at, set_at, same_prefix, is_before}
 use Rattle.rcp_model.specs.Rising.{IsRising}
 use Rattle.rcp_model.specs.LinkState.{LinkState, same_number}
 use Rattle.feed_meaning.specs.LinkStream.{Reading}
@@ -14,13 +14,14 @@ use Rattle.feed_meaning.specs.Platform.{Connections, Platform, domain_of}
 use Rattle.feed_meaning.specs.Work.{cell_update}
 use Rattle.feed_meaning.specs.OutRecords.{messages_to}
 use Rattle.rcp_model.specs.Edges.{rising_edges}
-use Rattle.rcp_model.specs.declared.event.Edge.{Edge}
+use Rattle.rcp_base.specs.declared.names.Edge.{Edge}
 use Rattle.rcp_model.specs.Costs.{Walk}
 use Rattle.rcp_model.specs.RouteServer.{Place, Announcements, same_place, same_octets, router_at, announced_at, offer}
 use Rattle.rcp_model.specs.RouteServer as control
 use Rattle.rcp_model.specs.Updates.{Table}
 use Rattle.rcp_model.specs.Sessions.{SessionState, slot_in}
-use Rattle.rcp_model.specs.Telling.{AreOctets, IsRouteOf}
+use Rattle.rcp_base.specs.Octets.{AreOctets}
+use Rattle.rcp_model.specs.Telling.{IsRouteOf}
 use Rattle.rcp_run.specs.declared.announcements.Announcement.{Announcement}
 use Rattle.rcp_run.specs.declared.table.Cell.{Cell}
 use Rattle.rcp_run.specs.declared.costs.Reached.{Reached}

@@ -1,7 +1,7 @@
 -- What the sessions did.
 use Rattle.std.specs.Prelude.{◌≡◌, ℕ, List, [], ◌∷◌, map, set, Option, None}
 use Rattle.std.specs.List.{AllByRecursion}
-use Rattle.rcp_model.specs.Rosters.{RosterOf}
+use Rattle.rcp_base.specs.Roster.{RosterOf}
 use Rattle.rcp_model.specs.Sessions.{SessionState, Moment, End, begun, answer}
 use Rattle.rcp_model.specs.Telling.{IsTold}
 use Rattle.feed_meaning.specs.Platform.{Platform}

@@ -1,7 +1,7 @@
 // What the routers announce: a map from router and prefix to route, as a list.
 ghost use Rattle.std.specs.Prelude.{◌≡◌, ◌==◌, ℕ, not, filter, option_copied, OnOk, IfOk, Some, None, bytes_eq};
 ghost use Rattle.std.specs.List.{position, AllByRecursion};
-ghost use Rattle.rcp_model.specs.Maps.{put_at, without};
+ghost use Rattle.rcp_base.specs.Maps.{put_at, without};
 ghost use Rattle.rcp_model.specs.RouteServer.{same_place, same_octets, announced_by};
 ghost use Rattle.rcp_model.specs.Routes.{is_usable};
 ghost use Rattle.rcp_model.specs.Telling.{IsRouteOf};

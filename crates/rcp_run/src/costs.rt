@@ -1,8 +1,8 @@
 // Costs of walks over the interior network's edges (RFC 2328 section 16.1), by relaxation.
 ghost use Rattle.std.specs.Prelude.{◌≡◌, ℕ, ◌<◌, true, false, List, map, OnOk, IfOk, if◌then◌else◌, Contains};
 ghost use Rattle.std.specs.List.{position};
-ghost use Rattle.rcp_model.specs.declared.event.Edge.{Edge};
-ghost use Rattle.rcp_model.specs.Maps.{put_at};
+ghost use Rattle.rcp_base.specs.declared.names.Edge.{Edge};
+ghost use Rattle.rcp_base.specs.Maps.{put_at};
 ghost use Rattle.rcp_model.specs.LinkState.{same_number};
 ghost use Rattle.rcp_model.specs.Costs.{cost};
 ghost use Rattle.rcp_run.specs.State.{cost_in, reached_in, is_lower, weight, IsBounded, AreOfWalks, IsSettledAt};

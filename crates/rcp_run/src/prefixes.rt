@@ -1,7 +1,7 @@
 // Sets of prefixes, as strictly rising lists.
 ghost use Rattle.std.specs.Prelude.{◌≡◌, [], not, ◌||◌, OnOk, IfOk};
 ghost use Rattle.std.specs.List.{position};
-ghost use Rattle.rcp_model.specs.Maps.{include, include_all, same_prefix, is_before};
+ghost use Rattle.rcp_base.specs.Maps.{include, include_all, same_prefix, is_before};
 ghost use Rattle.rcp_model.specs.RouteServer.{announced_prefixes, of_slot};
 ghost use Rattle.rcp_run.specs.State.{announcements_in};
 

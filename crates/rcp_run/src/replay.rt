@@ -5,7 +5,7 @@ ghost use Rattle.std.specs.List.{flat_map};
 ghost use Rattle.outside.specs.Told.{Rose, NeverFalls, behind};
 ghost use Rattle.rcp_base.specs.Feed.{before_feeds, is_finish, out_octets};
 ghost use Rattle.feed_format.specs.Writing.{WritesLess};
-ghost use Rattle.rcp_model.specs.Telling.{AreOctets};
+ghost use Rattle.rcp_base.specs.Octets.{AreOctets};
 ghost use Rattle.feed_meaning.specs.WholeFeeds.{Finished, HeadlineWritten};
 ghost use Rattle.rcp_run.specs.Narrowing.{narrowed};
 ghost use Rattle.rcp_run.specs.Answers.{status_of, HasCause, EndsSo, WroteSo, Answers, AnswersFrom, GoesWith, Begins, GoesOn};

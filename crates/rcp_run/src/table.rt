@@ -1,7 +1,7 @@
 // What a router was told: a map from prefix to attribute octets, as a list.
 ghost use Rattle.std.specs.Prelude.{◌≡◌, not, is_some, OnOk, IfOk, Some};
 ghost use Rattle.std.specs.List.{position};
-ghost use Rattle.rcp_model.specs.Maps.{get_at, put_at, without, same_prefix};
+ghost use Rattle.rcp_base.specs.Maps.{get_at, put_at, without, same_prefix};
 ghost use Rattle.rcp_model.specs.RouteServer.{same_octets};
 ghost use Rattle.rcp_run.specs.State.{table_in};
 

@@ -6,7 +6,7 @@ use Rattle.std.specs.Ordering.{eq_by_cmp}
 use Rattle.std.proofs.lemmas.Bool.{eqb-true, eqb-false, ne_eqb, or_left}
 use Rattle.rcp_base.specs.IpPrefix.{IpPrefix, prefix_cmp}
 use Rattle.rcp_model.specs.ServerRibs.{Prefixes, Ribs, prefixes_of, part, is_of}
-use Rattle.rcp_model.proofs.MapLemmas.{same_prefix-is, same_prefix-itself}
+use Rattle.rcp_base.proofs.MapLemmas.{same_prefix-is, same_prefix-itself}
 use Rattle.rcp_model.proofs.RibLemmas.{prefix_total, prefix_exact}
 use Rattle.rib_laws.specs.Totals.{total_below}
 use Rattle.rib_laws.proofs.RibLookups.{prefix_tied}

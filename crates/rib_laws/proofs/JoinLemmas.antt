@@ -1,5 +1,4 @@
 -- Each event does the same to the server of lists and to the one of maps that it comes to.
-use Rattle.std.specs.Int.{w16}
 use Rattle.std.proofs.Common.{◌≡◌, ℕ, suc, map, bytes_eq, Bool, true, false, cond, not, ◌&&◌, ◌||◌, eqb, List, [], ◌∷◌, length, Option, Some, None, is_some, option_map, refl, sym, ap, ◌∙◌, subst}
 use Rattle.std.specs.Prelude.{filter}
 use Rattle.std.specs.FinMap as map_of
@@ -8,8 +7,9 @@ use Rattle.std.specs.Cmp.{unsigned_tied}
 use Rattle.std.proofs.lemmas.Cmp.{nat_cmp_total}
 use Rattle.rcp_base.specs.IpPrefix.{IpPrefix}
 use Rattle.rcp_base.specs.declared.names.Member.{Member}
-use Rattle.rcp_model.specs.declared.event.Edge.{Edge}
-use Rattle.rcp_model.specs.Maps.{get_at, put_at, set_at, without, same_prefix, include, include_all, is_among}
+use Rattle.rcp_base.specs.declared.names.Edge.{Edge}
+use Rattle.rcp_base.specs.Maps.{get_at, put_at, set_at, without, same_prefix, include, include_all, is_among}
+use Rattle.rcp_model.specs.Attributes.{number_width}
 use Rattle.rcp_model.specs.LinkState.{same_number}
 use Rattle.rcp_model.specs.Updates.{Table}
 use Rattle.rcp_model.specs.Routes.{route_in}
@@ -205,12 +205,12 @@ join_links domain edges server = ribs_by_answers (ribs_of (after domain (Links e
       (of_slots (λ e. cost_differs server.edges edges domain.members e (length domain.members)) server.announcements) p refl
 
 -- what is offered in both is the same
-contender_read : (domain : Domain) (slot id : ℕ) (found : Option (List ℕ)) (cost : Option ℕ) → value_contender (route_in w16 domain.as_number) slot id found cost ≡ announcement_contender domain slot id found cost
+contender_read : (domain : Domain) (slot id : ℕ) (found : Option (List ℕ)) (cost : Option ℕ) → value_contender (route_in number_width domain.as_number) slot id found cost ≡ announcement_contender domain slot id found cost
 contender_read domain slot id None cost = refl
 contender_read domain slot id (Some octets) cost = refl
 
 contenders_read : (domain : Domain) (announced : Announced) (cost_to : ℕ → Option ℕ) (slot : ℕ) (members : List Member)
-    → contenders_from (route_in w16 domain.as_number) announced cost_to slot members ≡ candidates_from domain announced cost_to slot members
+    → contenders_from (route_in number_width domain.as_number) announced cost_to slot members ≡ candidates_from domain announced cost_to slot members
 contenders_read domain announced cost_to slot [] = refl
 contenders_read domain announced cost_to slot (member ∷ members) = λ i. cons_some (contender_read domain slot member.bgp_id (announced slot) (cost_to slot) i) (contenders_read domain announced cost_to (suc slot) members i)
 

@@ -9,8 +9,8 @@ use Rattle.std.specs.Cmp.{unsigned_tied}
 use Rattle.std.proofs.lemmas.Cmp.{nat_cmp_total}
 use Rattle.std.proofs.lemmas.Bool.{cases_Bool, and_parts, or_cases, or_left, or_right, eqb-true, eq-eqb, false≢true}
 use Rattle.rcp_base.specs.IpPrefix.{IpPrefix, prefix_cmp}
-use Rattle.rcp_model.specs.declared.event.Edge.{Edge}
-use Rattle.rcp_model.specs.Maps.{get_at, put_at, set_at, without, same_prefix, is_among}
+use Rattle.rcp_base.specs.declared.names.Edge.{Edge}
+use Rattle.rcp_base.specs.Maps.{get_at, put_at, set_at, without, same_prefix, is_among}
 use Rattle.rcp_model.specs.LinkState.{same_number}
 use Rattle.rcp_model.specs.Updates.{Table}
 use Rattle.rcp_model.specs.RouteServer.{Domain, Place, Announcements, Server, same_place, announced_by, announced_at, announced_prefixes, is_connected, is_pending, offer, worked}

@@ -7,11 +7,11 @@ use Rattle.std.specs.List.{list_any}
 use Rattle.std.specs.Ordering.{nat_cmp, eq_by_cmp}
 use Rattle.std.proofs.lemmas.Bool.{and_parts, false≢true}
 use Rattle.rcp_base.specs.IpPrefix.{IpPrefix, prefix_cmp}
-use Rattle.rcp_model.specs.declared.event.Edge.{Edge}
-use Rattle.rcp_model.specs.Maps.{same_prefix}
+use Rattle.rcp_base.specs.declared.names.Edge.{Edge}
+use Rattle.rcp_base.specs.Maps.{same_prefix}
 use Rattle.rcp_model.specs.RouteServer.{cost_differs}
 use Rattle.rcp_model.specs.ServerRibs.{Reader, Rib, Ribs, RibEvent, Up, Down, Change, Links, Work, same_values, offer_of, at_prefix, with_value, without_slot, prefixes_of, with_each, is_up, has_pending, offered, ribs_after, ribs_after_all, part, concerns}
-use Rattle.rcp_model.proofs.MapLemmas.{same_prefix-is}
+use Rattle.rcp_base.proofs.MapLemmas.{same_prefix-is}
 use Rattle.rcp_model.proofs.RibLemmas.{prefix_total, prefix_exact}
 use Rattle.rib_laws.proofs.RibLookups.{same_test, prefix_tied, get-with_value, get-retained, get-without_slot, get-with_each, Has, has_of_prefixes, prefixes_of_has}
 use Rattle.rib_laws.proofs.JoinLemmas.{ribs_by_answers}

@@ -6,13 +6,13 @@ use Rattle.std.proofs.lemmas.Bool.{and_parts, and_from, or_cases, or_left, or_ri
 use Rattle.std.proofs.lemmas.Slice.Eq.{bytes_eq-Decides}
 use Rattle.rcp_base.specs.IpPrefix.{IpPrefix}
 use Rattle.rcp_base.specs.declared.names.Member.{Member}
-use Rattle.rcp_model.specs.declared.event.Edge.{Edge}
-use Rattle.rcp_model.specs.Maps.{same_prefix}
+use Rattle.rcp_base.specs.declared.names.Edge.{Edge}
+use Rattle.rcp_base.specs.Maps.{same_prefix}
 use Rattle.rcp_model.specs.Routes.{RouteFields}
 use Rattle.rcp_model.specs.RouteServer.{Domain, Announced, Server, ServerEvent, same_cost, slot_cost, cost_differs, announced_at, is_connected, is_pending, after}
 use Rattle.rcp_model.specs.Pending.{IsPendingAfter}
 use Rattle.rcp_model.specs.ServerRibs.{Reader, IsExact, same_bit, same_route, same_values, octets_reader, RibEvent, Up, Down, Change, Links, Work, event_of, Ribs, at_prefix, with_value, prefixes_of, is_up, has_pending, ribs_after, ribs_of}
-use Rattle.rcp_model.proofs.MapLemmas.{same_prefix-is, same_prefix-itself}
+use Rattle.rcp_base.proofs.MapLemmas.{same_prefix-is, same_prefix-itself}
 use Rattle.rcp_model.proofs.RibLemmas.{prefix_total}
 use Rattle.rib_laws.proofs.RibLookups.{prefix_tied, Has, has_of_prefixes, prefixes_of_has}
 use Rattle.rib_laws.proofs.ListLookups.{up_in_lists, announced_in_lists, pending_in_lists}

@@ -1,14 +1,14 @@
 -- A server of octets and one of routes, where each route is read from the octets: an event keeps that, and both offer the same.
 use Rattle.std.proofs.Common.{◌≡◌, ℕ, suc, bytes_eq, IfSome, Bool, true, false, cond, not, ◌&&◌, eqb, List, [], ◌∷◌, length, Option, Some, None, is_some, option_map, refl, sym, ap, ◌∙◌, subst}
-use Rattle.std.specs.Int.{w16}
 use Rattle.std.specs.FinMap as map_of
 use Rattle.std.specs.FinSet as set_of
 use Rattle.std.specs.List.{list_any}
 use Rattle.std.specs.Ordering.{nat_cmp, eq_by_cmp}
 use Rattle.rcp_base.specs.IpPrefix.{IpPrefix}
 use Rattle.rcp_base.specs.declared.names.Member.{Member}
-use Rattle.rcp_model.specs.declared.event.Edge.{Edge}
-use Rattle.rcp_model.specs.Maps.{same_prefix}
+use Rattle.rcp_base.specs.declared.names.Edge.{Edge}
+use Rattle.rcp_base.specs.Maps.{same_prefix}
+use Rattle.rcp_model.specs.Attributes.{number_width}
 use Rattle.rcp_model.specs.Routes.{RouteFields, route_of, route_in}
 use Rattle.rcp_model.specs.Decision.{choice}
 use Rattle.rcp_model.specs.RouteServer.{Domain, slot_cost, contender_of, cons_some, cost_differs}
@@ -155,38 +155,38 @@ module _ {V W : Type 0} (from : Reader V) (to : Reader W) (f : V → W) (reading
 
 -- ---- routes from octets
 
-own_octets : (as_number : ℕ) (octets : List ℕ) → IsCanonical octets → (route_in w16 as_number octets).attrs ≡ octets
+own_octets : (as_number : ℕ) (octets : List ℕ) → IsCanonical octets → (route_in number_width as_number octets).attrs ≡ octets
 unfolding route_of
 own_octets as_number octets canonical = canonical
 
-tests_agree : (domain : Domain) (a b : Option (List ℕ)) → IfSome a IsCanonical → IfSome b IsCanonical → TestsAgree (octets_reader domain) (route_reader domain.members) (route_in w16 domain.as_number) a b
+tests_agree : (domain : Domain) (a b : Option (List ℕ)) → IfSome a IsCanonical → IfSome b IsCanonical → TestsAgree (octets_reader domain) (route_reader domain.members) (route_in number_width domain.as_number) a b
 tests_agree domain None None h g = refl
 tests_agree domain None (Some b) h g = refl
 tests_agree domain (Some a) None h g = refl
 tests_agree domain (Some a) (Some b) h g =
-    same_test (same_route (route_in w16 domain.as_number a) (route_in w16 domain.as_number b)) (bytes_eq a b)
+    same_test (same_route (route_in number_width domain.as_number a) (route_in number_width domain.as_number b)) (bytes_eq a b)
     (λ e.
-    let routes = route_exact.sound (route_in w16 domain.as_number a) (route_in w16 domain.as_number b) e in
+    let routes = route_exact.sound (route_in number_width domain.as_number a) (route_in number_width domain.as_number b) e in
     let octets : a ≡ b = sym (own_octets domain.as_number a h) ∙ ap (λ (r : RouteFields). r.attrs) routes ∙ own_octets domain.as_number b g in
     subst (λ o. bytes_eq a o ≡ true) octets (octets_exact.itself a))
     (λ e.
     let octets : a ≡ b = octets_exact.sound a b e in
-    subst (λ o. same_route (route_in w16 domain.as_number a) (route_in w16 domain.as_number o) ≡ true) octets (route_exact.itself (route_in w16 domain.as_number a)))
+    subst (λ o. same_route (route_in number_width domain.as_number a) (route_in number_width domain.as_number o) ≡ true) octets (route_exact.itself (route_in number_width domain.as_number a)))
 
-reading : (domain : Domain) → IsReading (octets_reader domain) (route_reader domain.members) (route_in w16 domain.as_number)
+reading : (domain : Domain) → IsReading (octets_reader domain) (route_reader domain.members) (route_in number_width domain.as_number)
 reading domain = record { members = refl; routes = λ value. refl }
 
 pub routes_read : (domain : Domain) (event : RibEvent (List ℕ)) (octets : Ribs (List ℕ)) (routes : Ribs RouteFields)
-    → IsRead (route_in w16 domain.as_number) octets routes → IsCanonicalChange octets event
-    → IsRead (route_in w16 domain.as_number) (ribs_after (octets_reader domain) event octets) (ribs_after (route_reader domain.members) (read_event (route_in w16 domain.as_number) event) routes)
-routes_read domain (Up slot) octets routes read good = read_up (octets_reader domain) (route_reader domain.members) (route_in w16 domain.as_number) (reading domain) octets routes read slot
-routes_read domain (Down slot) octets routes read good = read_down (octets_reader domain) (route_reader domain.members) (route_in w16 domain.as_number) (reading domain) octets routes read slot
+    → IsRead (route_in number_width domain.as_number) octets routes → IsCanonicalChange octets event
+    → IsRead (route_in number_width domain.as_number) (ribs_after (octets_reader domain) event octets) (ribs_after (route_reader domain.members) (read_event (route_in number_width domain.as_number) event) routes)
+routes_read domain (Up slot) octets routes read good = read_up (octets_reader domain) (route_reader domain.members) (route_in number_width domain.as_number) (reading domain) octets routes read slot
+routes_read domain (Down slot) octets routes read good = read_down (octets_reader domain) (route_reader domain.members) (route_in number_width domain.as_number) (reading domain) octets routes read slot
 routes_read domain (Change slot p value) octets routes read good =
-    read_change (octets_reader domain) (route_reader domain.members) (route_in w16 domain.as_number) (reading domain) octets routes read slot p value
+    read_change (octets_reader domain) (route_reader domain.members) (route_in number_width domain.as_number) (reading domain) octets routes read slot p value
     (tests_agree domain (at_prefix octets.announced p slot) value good.0 good.1)
-routes_read domain (Links edges) octets routes read good = read_links (octets_reader domain) (route_reader domain.members) (route_in w16 domain.as_number) (reading domain) octets routes read edges
-routes_read domain (Work p) octets routes read good = read_work (octets_reader domain) (route_reader domain.members) (route_in w16 domain.as_number) (reading domain) octets routes read p
+routes_read domain (Links edges) octets routes read good = read_links (octets_reader domain) (route_reader domain.members) (route_in number_width domain.as_number) (reading domain) octets routes read edges
+routes_read domain (Work p) octets routes read good = read_work (octets_reader domain) (route_reader domain.members) (route_in number_width domain.as_number) (reading domain) octets routes read p
 
-pub routes_offered : (domain : Domain) (octets : Ribs (List ℕ)) (routes : Ribs RouteFields) → IsRead (route_in w16 domain.as_number) octets routes → (p : IpPrefix) (slot : ℕ)
-    → offered (route_reader domain.members) routes p slot ≡ option_map (route_in w16 domain.as_number) (offered (octets_reader domain) octets p slot)
-routes_offered domain octets routes read p slot = offered_read (octets_reader domain) (route_reader domain.members) (route_in w16 domain.as_number) (reading domain) octets routes read p slot
+pub routes_offered : (domain : Domain) (octets : Ribs (List ℕ)) (routes : Ribs RouteFields) → IsRead (route_in number_width domain.as_number) octets routes → (p : IpPrefix) (slot : ℕ)
+    → offered (route_reader domain.members) routes p slot ≡ option_map (route_in number_width domain.as_number) (offered (octets_reader domain) octets p slot)
+routes_offered domain octets routes read p slot = offered_read (octets_reader domain) (route_reader domain.members) (route_in number_width domain.as_number) (reading domain) octets routes read p slot

@@ -9,7 +9,7 @@ use Rattle.std.specs.declared.cmp.Ordering.TheVariants.{Less, Equal, Greater}
 use Rattle.std.specs.Cmp.{unsigned_tied}
 use Rattle.std.proofs.lemmas.Bool.{and_parts, and_from, or_cases, or_left, or_right, eqb-true, eq-eqb, false≢true}
 use Rattle.rcp_base.specs.IpPrefix.{IpPrefix, prefix_cmp}
-use Rattle.rcp_model.specs.Maps.{same_prefix}
+use Rattle.rcp_base.specs.Maps.{same_prefix}
 use Rattle.rcp_model.specs.Ribs.{RibKey, rib_cmp}
 use Rattle.rcp_model.specs.ServerRibs.{Values, Rib, with_value, without_slot, prefixes_of, with_each}
 use Rattle.rcp_model.proofs.RibLemmas.{prefix_total, rib_total, rib_exact, rib_tied}

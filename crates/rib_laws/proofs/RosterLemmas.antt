@@ -8,39 +8,33 @@ use Rattle.rcp_base.specs.declared.kinds.RosterWhy.{RosterWhy}
 use Rattle.rcp_base.specs.declared.kinds.RosterWhy.TheVariants as why
 use Rattle.rcp_base.specs.declared.names.Member.{Member}
 use Rattle.rcp_base.specs.Checks.{first_failing, unless}
-use Rattle.rcp_base.specs.Roster.{Line, As, Id, Shards, Hold, Area, Router, Link, RosterLink, Named, nothing_named, has_router, has_identifier, is_value, repeats, is_unknown, is_beyond, line_fault, line_of, with_line, with_text, is_skipped, with_any_text, completed, complete, roster_from, roster_of, lines_of}
-use Rattle.rcp_base.specs.Roster as text
-use Rattle.rcp_model.specs.declared.event.Edge.{Edge}
+use Rattle.rcp_base.specs.Roster.{Line, As, Id, Shards, Hold, Area, Router, Link, RosterOf, FaultyLine, Named, nothing_named, has_router, has_identifier, is_value, repeats, is_unknown, is_beyond, line_fault, line_of, with_line, with_text, is_skipped, with_any_text, completed, complete, roster_from, roster_of, lines_of}
+use Rattle.rcp_base.specs.declared.names.Edge.{Edge}
 use Rattle.rcp_model.specs.Costs.{IsTwoWay}
 use Rattle.rcp_model.specs.Graphs.{AreMembers}
-use Rattle.rcp_model.specs.Rosters.{RosterOf, edge_of, edged, roster_in}
 use Rattle.rcp_model.proofs.MemberLemmas.{Contains-head, Contains-tail, Contains-cases, Contains-none, none_at_member}
 
 -- ---- links
 
--- each link has one back
-abbrev HaveBacks : List RosterLink → Type 0
-HaveBacks links = (link : RosterLink) → Contains links link → (back : RosterLink) × Contains links back × (back.from ≡ link.to) × (back.to ≡ link.from)
-
-both_links : ℕ → ℕ → ℕ → List RosterLink
+both_links : ℕ → ℕ → ℕ → List Edge
 both_links u v cost = record { from = u; to = v; cost = cost } ∷ record { from = v; to = u; cost = cost } ∷ []
 
-backs-both : (u v cost : ℕ) → HaveBacks (both_links u v cost)
+backs-both : (u v cost : ℕ) → IsTwoWay (both_links u v cost)
 unfolding both_links
 backs-both u v cost link inside = elim (Contains-cases there (back ∷ []) link inside) [
-  | inl is ↦ (back, Contains-tail there (back ∷ []) back (Contains-head back []), ap (λ (l : RosterLink). l.to) is, ap (λ (l : RosterLink). l.from) is)
+  | inl is ↦ (back, Contains-tail there (back ∷ []) back (Contains-head back []), ap (λ (l : Edge). l.to) is, ap (λ (l : Edge). l.from) is)
   | inr rest ↦ elim (Contains-cases back [] link rest) [
-    | inl is ↦ (there, Contains-head there (back ∷ []), ap (λ (l : RosterLink). l.to) is, ap (λ (l : RosterLink). l.from) is)
+    | inl is ↦ (there, Contains-head there (back ∷ []), ap (λ (l : Edge). l.to) is, ap (λ (l : Edge). l.from) is)
     | inr none ↦ absurd (Contains-none link none)
   ]
 ] where
-  there : RosterLink
+  there : Edge
   there = record { from = u; to = v; cost = cost }
 
-  back : RosterLink
+  back : Edge
   back = record { from = v; to = u; cost = cost }
 
-backs-append : (links more : List RosterLink) → HaveBacks links → HaveBacks more → HaveBacks (links ++ more)
+backs-append : (links more : List Edge) → IsTwoWay links → IsTwoWay more → IsTwoWay (links ++ more)
 backs-append links more old new link inside = elim (Contains-append_cases links more link inside) [
   | inl first ↦ let found = old link first in (found.0, Contains-append_left links more found.0 found.1, found.2, found.3)
   | inr rest ↦ let found = new link rest in (found.0, Contains-append_right links more found.0 found.1, found.2, found.3)
@@ -50,7 +44,7 @@ backs-append links more old new link inside = elim (Contains-append_cases links 
 
 record Sound (named : Named) : Type 0 where
   members : AreMembers named.members
-  backs : HaveBacks named.links
+  backs : IsTwoWay named.links
 
 faultless : (a b c : Bool) (f g h : RosterWhy) → first_failing ((a, f) ∷ (b, g) ∷ (c, h) ∷ []) ≡ None → (a ≡ false) × (b ≡ false) × (c ≡ false)
 faultless true b c f g h is = absurd (some_none f is) where
@@ -113,8 +107,8 @@ sound-text named line sound = at_test (is_skipped line) where
 
 -- ---- the roster
 
-abbrev IsSound : text.RosterOf → Type 0
-IsSound roster = AreMembers roster.members × HaveBacks roster.links
+abbrev IsSound : RosterOf → Type 0
+IsSound roster = AreMembers roster.members × IsTwoWay roster.links
 
 sound-named : (line : ℕ) (named : Named) → Sound named → IfOk (complete line (completed named)) IsSound
 sound-named line named sound = at_settings named.as_number named.id named.shards named.hold named.area where
@@ -130,7 +124,7 @@ sound-from : (line : ℕ) (named : Named) (lines : List (List ℕ)) → Sound na
 sound-from line named [] sound = sound-named line named sound
 sound-from line named (first ∷ lines) sound = at_step (with_any_text named first) (sound-text named first sound) (λ more kept. sound-from (line + 1) more lines kept) where
   at_step : (step : Result Named RosterWhy) → IfOk step Sound → ((more : Named) → Sound more → IfOk (roster_from (line + 1) more lines) IsSound)
-      → IfOk (elim step as (λ _. Result text.RosterOf text.FaultyLine) [ Ok more ↦ roster_from (line + 1) more lines | Err fault ↦ Err (record { line = line; why = fault }) ]) IsSound
+      → IfOk (elim step as (λ _. Result RosterOf FaultyLine) [ Ok more ↦ roster_from (line + 1) more lines | Err fault ↦ Err (record { line = line; why = fault }) ]) IsSound
   at_step (Ok more) kept rest = rest more kept
   at_step (Err fault) kept rest = tt
 
@@ -140,37 +134,8 @@ sound-empty = record {
   backs = λ link inside. absurd (Contains-none link inside);
 }
 
--- ---- as edges
-
-member_of_map : {X Y : Type 0} (f : X → Y) (xs : List X) (y : Y) → Contains (map f xs) y → (x : X) × Contains xs x × (f x ≡ y)
-member_of_map f [] y inside = absurd (Contains-none y inside)
-member_of_map {X} {Y} f (x ∷ xs) y inside = at_place (Contains-cases (f x) (map f xs) y inside) (member_of_map f xs y) where
-  at_place : (f x ≡ y) ⊎ Contains (map f xs) y → (Contains (map f xs) y → (z : X) × Contains xs z × (f z ≡ y)) → (z : X) × Contains (x ∷ xs) z × (f z ≡ y)
-  at_place (inl here) rest = (x, Contains-head x xs, here)
-  at_place (inr later) rest = let found = rest later in (found.0, Contains-tail x xs found.0 found.1, found.2)
-
-map_member : {X Y : Type 0} (f : X → Y) (xs : List X) (x : X) → Contains xs x → Contains (map f xs) (f x)
-map_member f [] x inside = absurd (Contains-none x inside)
-map_member {X} {Y} f (z ∷ xs) x inside = at_place (Contains-cases z xs x inside) (map_member f xs x) where
-  at_place : (z ≡ x) ⊎ Contains xs x → (Contains xs x → Contains (map f xs) (f x)) → Contains (map f (z ∷ xs)) (f x)
-  at_place (inl here) rest = subst (λ (w : X). Contains (map f (z ∷ xs)) (f w)) here (Contains-head (f z) (map f xs))
-  at_place (inr later) rest = Contains-tail (f z) (map f xs) (f x) (rest later)
-
-two_way-links : (links : List RosterLink) → HaveBacks links → IsTwoWay (map edge_of links)
-two_way-links links backs edge inside =
-    let found = member_of_map edge_of links edge inside in
-    let back = backs found.0 found.1 in
-    (edge_of back.0, map_member edge_of links back.0 back.1, back.2 ∙ ap (λ (e : Edge). e.to) found.2, back.3 ∙ ap (λ (e : Edge). e.from) found.2)
-
-abbrev IsInOrder : RosterOf → Type 0
-IsInOrder roster = AreMembers roster.members × IsTwoWay roster.links
-
-in_order : (result : Result text.RosterOf text.FaultyLine) → IfOk result IsSound → IfOk (edged result) IsInOrder
-in_order (Ok roster) sound = (sound.0, two_way-links roster.links sound.1)
-in_order (Err fault) sound = tt
-
 if_ok : {X E : Type 0} (P : X → Type 0) (result : Result X E) (x : X) → IfOk result P → result ≡ Ok x → P x
 if_ok {X} {E} P result x holds is = subst (λ (r : Result X E). IfOk r P) is holds
 
-pub roster-in_order : (octets : List ℕ) (roster : RosterOf) → roster_in octets ≡ Ok roster → AreMembers roster.members × IsTwoWay roster.links
-roster-in_order octets roster is = if_ok IsInOrder (roster_in octets) roster (in_order (roster_of octets) (sound-from 1 nothing_named (lines_of octets) sound-empty)) is
+pub roster-in_order : (octets : List ℕ) (roster : RosterOf) → roster_of octets ≡ Ok roster → AreMembers roster.members × IsTwoWay roster.links
+roster-in_order octets roster is = if_ok IsSound (roster_of octets) roster (sound-from 1 nothing_named (lines_of octets) sound-empty) is

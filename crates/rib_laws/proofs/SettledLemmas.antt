@@ -9,14 +9,14 @@ use Rattle.std.proofs.lemmas.Cmp.{nat_cmp_total}
 use Rattle.std.proofs.lemmas.Bool.{and_parts, or_parts, eq-eqb, false≢true, not-true, cases_lt}
 use Rattle.rcp_base.specs.IpPrefix.{IpPrefix}
 use Rattle.rcp_base.specs.declared.names.Member.{Member}
-use Rattle.rcp_model.specs.declared.event.Edge.{Edge}
-use Rattle.rcp_model.specs.Maps.{get_at, same_prefix}
+use Rattle.rcp_base.specs.declared.names.Edge.{Edge}
+use Rattle.rcp_base.specs.Maps.{get_at, same_prefix}
 use Rattle.rcp_model.specs.Updates.{Table}
 use Rattle.rcp_model.specs.Routes.{RouteFields, is_usable}
 use Rattle.rcp_model.specs.Decision.{Contender, contender, tied, is_of, is_nearer, is_lower_pair, nearest, choice}
 use Rattle.rcp_model.specs.RouteServer.{Domain, Server, ServerEvent, router_at, slot_cost, contender_of, cons_some, offer, same_cost, cost_differs, announced_at, is_pending, table_of, after}
 use Rattle.rcp_model.specs.ServerRibs.{Values, Reader, same_values, octets_reader, value_contender, contenders_from, of_other, offer_of, RibEvent, Up, Down, Change, Links, Work, event_of, Rib, Ribs, at_prefix, with_value, without_slot, prefixes_of, cell_in, is_up, has_pending, offered, AreSettled, empty_ribs, ribs_after, ribs_of}
-use Rattle.rcp_model.proofs.MapLemmas.{same_prefix-is}
+use Rattle.rcp_base.proofs.MapLemmas.{same_prefix-is}
 use Rattle.rcp_model.proofs.OfferLemmas.{filter-keeps}
 use Rattle.rcp_model.proofs.RibLemmas.{prefix_total}
 use Rattle.rib_laws.proofs.RibLookups.{prefix_tied, get-with_value, get-without_slot, get-with_each, prefixes_of_has}

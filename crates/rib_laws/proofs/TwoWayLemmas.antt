@@ -2,7 +2,7 @@
 use Rattle.std.proofs.Common.{◌≡◌, ℕ, cond, List, [], ◌∷◌, ◌++◌, Contains, Option, Some, None, is_some, sym, ap, ◌⊎◌, inl, inr, subst}
 use Rattle.std.specs.List.{flat_map}
 use Rattle.std.proofs.lemmas.List.Elements.{Contains-append_left, Contains-append_right, Contains-append_cases}
-use Rattle.rcp_model.specs.declared.event.Edge.{Edge}
+use Rattle.rcp_base.specs.declared.names.Edge.{Edge}
 use Rattle.rcp_model.specs.LinkState.{Kept, LinkState}
 use Rattle.rcp_model.specs.Edges.{metric_to, two_way, learned, include_edge, rising_edges, edges_of}
 use Rattle.rcp_model.specs.Costs.{IsTwoWay}

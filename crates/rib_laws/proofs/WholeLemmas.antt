@@ -4,10 +4,10 @@ use Rattle.std.specs.FinMap as map_of
 use Rattle.std.specs.FinSet as set_of
 use Rattle.std.proofs.lemmas.Bool.{and_parts, and_from, eqb-true, eq-eqb}
 use Rattle.rcp_base.specs.IpPrefix.{IpPrefix, prefix_cmp}
-use Rattle.rcp_model.specs.Maps.{same_prefix, is_among}
+use Rattle.rcp_base.specs.Maps.{same_prefix, is_among}
 use Rattle.rcp_model.specs.Assigned.{IsLeast}
 use Rattle.rcp_model.specs.ServerRibs.{Reader, Rib, Ribs, RibEvent, Work, at_prefix, is_up, has_pending, offered, ribs_after, ribs_after_all, part, is_of}
-use Rattle.rcp_model.proofs.MapLemmas.{same_prefix-is}
+use Rattle.rcp_base.proofs.MapLemmas.{same_prefix-is}
 use Rattle.rcp_model.proofs.RibLemmas.{prefix_total}
 use Rattle.rib_laws.proofs.RibLookups.{prefix_tied, get-with_each}
 use Rattle.rib_laws.proofs.JoinLemmas.{ribs_by_answers}

@@ -2,8 +2,8 @@
 use Rattle.std.specs.Prelude.{◌≡◌, ◌<◌, ◌↔◌, true, ℕ, Bool, List, Option, map, filter, if◌then◌else◌}
 use Rattle.std.specs.FinSet as set_of
 use Rattle.rcp_base.specs.IpPrefix.{IpPrefix}
-use Rattle.rcp_model.specs.declared.event.Edge.{Edge}
-use Rattle.rcp_model.specs.Maps.{is_among}
+use Rattle.rcp_base.specs.declared.names.Edge.{Edge}
+use Rattle.rcp_base.specs.Maps.{is_among}
 use Rattle.rcp_model.specs.Assigned.{IsLeast}
 use Rattle.rcp_model.specs.Pending.{IsPendingAfter}
 use Rattle.rcp_model.specs.ServerRibs.{Reader, IsExact, RibEvent, Work, Ribs, at_prefix, is_up, has_pending, AreSettled, empty_ribs, part, is_of, prefixes_of, concerns, ribs_after, ribs_after_all}

@@ -4,7 +4,7 @@
 ghost use Rattle.std.specs.Prelude.{◌≡◌, false, ℕ, List, Some};
 ghost use Rattle.rcp_base.specs.IpPrefix.{IpPrefix};
 ghost use Rattle.rcp_model.specs.Routes.{RouteFields};
-ghost use Rattle.rcp_model.specs.Maps.{get_at, same_prefix};
+ghost use Rattle.rcp_base.specs.Maps.{get_at, same_prefix};
 ghost use Rattle.rcp_model.specs.Updates.{Table};
 ghost use Rattle.rcp_model.specs.RouteServer.{Domain, Server, ServerEvent, announced_at, is_pending, table_of, offer, after};
 ghost use Rattle.rib_laws.specs.Statements.{SettledFirst, SettledLater};

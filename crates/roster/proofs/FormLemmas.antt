@@ -11,11 +11,10 @@ use Rattle.rcp_base.specs.declared.kinds.RosterWhy.{RosterWhy}
 use Rattle.rcp_base.specs.declared.kinds.RosterWhy.TheVariants as why
 use Rattle.rcp_base.specs.declared.names.Member.{Member}
 use Rattle.rcp_base.specs.Checks.{first_failing, unless}
-use Rattle.rcp_base.specs.Roster.{Line, As, Id, Shards, Hold, Area, Router, Link, number_within, except, as_value, hold_value, name_value, one, two, three, line_of_words, is_empty, words_of, line_of, Named, RosterLink, nothing_named, has_router, has_identifier, is_value, repeats, is_unknown, is_beyond, line_fault, with_line, with_text, is_skipped, with_any_text}
+use Rattle.rcp_base.specs.Roster.{Line, As, Id, Shards, Hold, Area, Router, Link, number_within, except, as_value, hold_value, name_value, one, two, three, line_of_words, is_empty, words_of, line_of, Named, nothing_named, has_router, has_identifier, is_value, repeats, is_unknown, is_beyond, line_fault, with_line, with_text, is_skipped, with_any_text}
 use Rattle.rcp_base.specs.Text.{number_of, address_of}
 use Rattle.roster.proofs.EntryLemmas.{eqb-turned}
-use Rattle.rcp_model.specs.declared.event.Edge.{Edge}
-use Rattle.roster.specs.Edges.{link_of}
+use Rattle.rcp_base.specs.declared.names.Edge.{Edge}
 use Rattle.roster.specs.Drafts.{AreNamed}
 use Rattle.roster.specs.declared.rosters.Settings.{Settings}
 use Rattle.roster.proofs.RosterLemmas.{of_parts}
@@ -158,7 +157,7 @@ still_named : (members more : List Member) (router : ℕ) → has_router members
 still_named members more router e =
     list_any-append (λ (m : Member). eqb m.router router) members more ∙ ap (λ t. t || has_router more router) e
 
-still_links : (members more : List Member) (links : List RosterLink) → All (IsLinkOf members) links → All (IsLinkOf (members ++ more)) links
+still_links : (members more : List Member) (links : List Edge) → All (IsLinkOf members) links → All (IsLinkOf (members ++ more)) links
 still_links members more links each k d within =
     let h = each k d within in
     record { from = still_named members more _ h.from; to = still_named members more _ h.to; apart = h.apart; least = h.least; most = h.most }
@@ -201,9 +200,9 @@ kept named (Router router id) form said none =
 kept named (Link u v cost) form said none =
     let ends = both_true (has_router named.members u) (has_router named.members v) (not_false _ none.known) in
     let apart : u ≢ v = eqb-false u v none.once in
-    let forth : RosterLink = record { from = u; to = v; cost = cost } in
-    let back : RosterLink = record { from = v; to = u; cost = cost } in
-    let P : RosterLink → Type 0 = IsLinkOf named.members in
+    let forth : Edge = record { from = u; to = v; cost = cost } in
+    let back : Edge = record { from = v; to = u; cost = cost } in
+    let P : Edge → Type 0 = IsLinkOf named.members in
     let one_more = All-push P named.links forth form.links (record { from = ends.0; to = ends.1; apart = apart; least = said.0; most = said.1 }) in
     let two_more = All-push P (named.links ++ forth ∷ []) back one_more (record { from = ends.1; to = ends.0; apart = λ e. apart (sym e); least = said.0; most = said.1 }) in
     record {
@@ -240,11 +239,7 @@ none_named = record {
 
 -- ---- the roster of what is named
 
-edges_form : (P : RosterLink → Type 0) (edges : List Edge) → All P (map link_of edges) → All (λ edge. P (link_of edge)) edges
-edges_form P edges each k d within =
-    subst P (get_or-map link_of edges k d (link_of d) within) (each k (link_of d) (subst (λ n. k < n) (sym (length-map edges link_of)) within))
-
-pub settled_form : (settings : Settings) (named : Named) (members : List Member) (edges : List Edge) → members ≡ named.members → map link_of edges ≡ named.links
+pub settled_form : (settings : Settings) (named : Named) (members : List Member) (edges : List Edge) → members ≡ named.members → edges ≡ named.links
     → AreNamed settings named → NamedInForm named → InForm (of_parts settings members edges)
 settled_form settings named members edges e f are form = record {
   as_number = subst (λ o. IfSome o IsAsNumber) are.as_number form.as_number;
@@ -252,5 +247,5 @@ settled_form settings named members edges e f are form = record {
   hold = subst (λ o. IfSome o IsHoldTime) are.hold form.hold;
   members = subst AreMembers (sym e) form.members;
   own = ap (λ (ms : List Member). has_identifier ms settings.id) e ∙ subst (λ o. IfSome o (λ id. has_identifier named.members id ≡ false)) are.id form.own;
-  links = edges_form (IsLinkOf members) edges (subst (λ ms. All (IsLinkOf ms) (map link_of edges)) (sym e) (subst (λ links. All (IsLinkOf named.members) links) (sym f) form.links));
+  links = subst (λ ms. All (IsLinkOf ms) edges) (sym e) (subst (λ links. All (IsLinkOf named.members) links) (sym f) form.links);
 }

@@ -1,16 +1,10 @@
--- The roster of what is named, with its links as edges.
-use Rattle.std.proofs.Common.{◌≡◌, List, [], ◌∷◌, map, refl, ap, ◌∙◌}
+-- The roster of what is named.
+use Rattle.std.proofs.Common.{◌≡◌, List, ap, ◌∙◌}
 use Rattle.rcp_base.specs.declared.names.Member.{Member}
-use Rattle.rcp_base.specs.Roster.{Named}
-use Rattle.rcp_model.specs.Rosters.{RosterOf, edge_of, with_edges}
-use Rattle.rcp_model.specs.declared.event.Edge.{Edge}
-use Rattle.roster.specs.Edges.{link_of}
+use Rattle.rcp_base.specs.Roster.{Named, RosterOf}
+use Rattle.rcp_base.specs.declared.names.Edge.{Edge}
 use Rattle.roster.specs.Drafts.{settled}
 use Rattle.roster.specs.declared.rosters.Settings.{Settings}
-
-edges-again : (edges : List Edge) → edges ≡ map edge_of (map link_of edges)
-edges-again [] = refl
-edges-again (e ∷ edges) = ap (λ (es : List Edge). e ∷ es) (edges-again edges)
 
 abbrev pub of_parts : Settings → List Member → List Edge → RosterOf
 of_parts settings members links = record {
@@ -23,8 +17,8 @@ of_parts settings members links = record {
   links = links;
 }
 
-pub of_named : (settings : Settings) (named : Named) (members : List Member) (edges : List Edge) → members ≡ named.members → map link_of edges ≡ named.links
-    → of_parts settings members edges ≡ with_edges (settled settings named)
-of_named settings named members edges e f =
-    ap (λ (ms : List Member). of_parts settings ms edges) e
-    ∙ ap (λ (es : List Edge). of_parts settings named.members es) (edges-again edges ∙ ap (map edge_of) f)
+pub of_named : (settings : Settings) (named : Named) (members : List Member) (links : List Edge) → members ≡ named.members → links ≡ named.links
+    → of_parts settings members links ≡ settled settings named
+of_named settings named members links e f =
+    ap (λ (ms : List Member). of_parts settings ms links) e
+    ∙ ap (λ (ls : List Edge). of_parts settings named.members ls) f

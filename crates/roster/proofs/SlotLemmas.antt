@@ -4,7 +4,7 @@ use Rattle.std.specs.List.{prefix_len, position_or_len}
 use Rattle.std.proofs.lemmas.Bool.{eq-eqb, ne_eqb, ltb-true, ltb-false}
 use Rattle.std.proofs.lemmas.List.Sums.{position_or_len_is}
 use Rattle.std.proofs.lemmas.Option.{get_or_from_slice_get}
-use Rattle.rcp_model.specs.Rosters.{slot_from}
+use Rattle.rcp_base.specs.Roster.{slot_from}
 use Rattle.rcp_base.specs.declared.names.Member.{Member}
 
 step : (k n : ℕ) → cond (nat_lt (1 + k) (suc n)) (Some (1 + k)) None ≡ option_map (λ m. m + 1) (cond (nat_lt k n) (Some k) None)

@@ -1,9 +1,8 @@
 -- Rosters in form: the ranges of the settings, names that are named once, and links of named routers.
 use Rattle.std.specs.Prelude.{◌≡◌, ◌≢◌, ℕ, ◌≤◌, false, true, List, length, All, AllPairs, IfSome}
 use Rattle.rcp_base.specs.declared.names.Member.{Member}
-use Rattle.rcp_base.specs.Roster.{Named, RosterLink, has_router, has_identifier}
-use Rattle.rcp_model.specs.Rosters.{RosterOf}
-use Rattle.roster.specs.Edges.{link_of}
+use Rattle.rcp_base.specs.declared.names.Edge.{Edge}
+use Rattle.rcp_base.specs.Roster.{Named, RosterOf, has_router, has_identifier}
 
 -- 23456 stands for the AS numbers that two octets don't hold (RFC 6793)
 pub record IsAsNumber (n : ℕ) : Type 0 where
@@ -34,7 +33,7 @@ pub record AreMembers (members : List Member) : Type 0 where
   pub identifiers : AllPairs (λ a b. a.bgp_id ≢ b.bgp_id) members
 
 -- a link of two routers that are named
-pub record IsLinkOf (members : List Member) (link : RosterLink) : Type 0 where
+pub record IsLinkOf (members : List Member) (link : Edge) : Type 0 where
   pub from : has_router members link.from ≡ true
   pub to : has_router members link.to ≡ true
   pub apart : link.from ≢ link.to
@@ -48,7 +47,7 @@ pub record InForm (roster : RosterOf) : Type 0 where
   pub hold : IsHoldTime roster.hold
   pub members : AreMembers roster.members
   pub own : has_identifier roster.members roster.id ≡ false
-  pub links : All (λ edge. IsLinkOf roster.members (link_of edge)) roster.links
+  pub links : All (IsLinkOf roster.members) roster.links
 
 -- the same of what is named before the last line
 pub record NamedInForm (named : Named) : Type 0 where

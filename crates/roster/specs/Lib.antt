@@ -1,4 +1,3 @@
-pub mod Edges
 pub mod Entries
 pub mod Lines
 pub mod Form

@@ -1,8 +1,7 @@
 -- The roster of a text, as the definitions of the route control server use it.
 use Rattle.std.specs.Prelude.{◌≡◌, ℕ, List, Some, None, Result, Ok, Err}
 use Rattle.rcp_base.specs.declared.kinds.RosterWhy.TheVariants as why
-use Rattle.rcp_base.specs.Roster.{RosterOf as Written, Named, completed}
-use Rattle.rcp_model.specs.Rosters.{RosterOf, with_edges, roster_in}
+use Rattle.rcp_base.specs.Roster.{RosterOf, Named, completed, roster_of}
 use Rattle.roster.specs.declared.refusal.Stop.{Stop}
 use Rattle.roster.specs.declared.refusal.Stop.TheVariants as stop
 use Rattle.roster.specs.declared.refusal.RosterRefusal.{RosterRefusal}
@@ -10,13 +9,13 @@ use Rattle.roster.specs.declared.refusal.RosterRefusal.TheVariants as refusal
 
 -- what is read of a text is its roster, or its first faulty line
 abbrev pub Reads : List ℕ → Result RosterOf RosterRefusal → Type 0
-Reads text (Ok roster) = roster_in text ≡ Ok roster
-Reads text (Err (refusal.Fault line why)) = roster_in text ≡ Err (record { line = line; why = why })
+Reads text (Ok roster) = roster_of text ≡ Ok roster
+Reads text (Err (refusal.Fault line why)) = roster_of text ≡ Err (record { line = line; why = why })
 Reads text (Err refusal.NoMemory) = Unit {0}
 
 -- the roster of what is named, where no setting is missing at the line behind the last
 abbrev pub Completes : Named → ℕ → Result RosterOf RosterRefusal → Type 0
-Completes named line (Ok roster) = (written : Written) × (completed named ≡ Some written) × (roster ≡ with_edges written)
+Completes named line (Ok roster) = completed named ≡ Some roster
 Completes named line (Err refused) = (completed named ≡ None) × (refused ≡ refusal.Fault line why.Missing)
 
 -- the refusal that a stop at this line is

@@ -28,13 +28,11 @@ pub struct Draft {
 }
 
 impl Model for Draft {
-    ghost use Rattle.std.specs.Prelude.{map};
     ghost use Rattle.rcp_base.specs.Roster.{Named};
-    ghost use Rattle.roster.specs.Edges.{link_of};
 
     ghost Value = { Named };
 
-    ghost view = { λ d. record { as_number = d.as_number; id = d.id; shards = d.shards; hold = d.hold; area = d.area; members = d.members; links = map link_of d.links.items } };
+    ghost view = { λ d. record { as_number = d.as_number; id = d.id; shards = d.shards; hold = d.hold; area = d.area; members = d.members; links = d.links.items } };
 }
 
 impl Draft {

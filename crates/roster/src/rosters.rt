@@ -1,7 +1,7 @@
 //! A roster, and what is asked of it.
 
 ghost use Rattle.std.specs.Prelude.{◌≡◌, ◌<◌, ◌≤◌, ◌==◌, length, Some, slice_get, position, IfSome};
-ghost use Rattle.rcp_model.specs.Rosters.{slot_from};
+ghost use Rattle.rcp_base.specs.Roster.{slot_from};
 ghost use Rattle.roster.specs.Form.{IsAsNumber, IsShardCount, IsHoldTime, InForm};
 
 use crate::members::Members;
@@ -28,7 +28,7 @@ pub struct Roster {
 }
 
 impl Model for Roster {
-    ghost use Rattle.rcp_model.specs.Rosters.{RosterOf};
+    ghost use Rattle.rcp_base.specs.Roster.{RosterOf};
     ghost use Rattle.roster.specs.Form.{InForm};
 
     ghost Value = { RosterOf };

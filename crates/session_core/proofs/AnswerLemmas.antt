@@ -1,7 +1,7 @@
 -- What the calls of a session come to.
 use Rattle.std.proofs.Common.{◌≡◌, ℕ, Bool, true, false, List, [], ◌++◌, max, refl, sym, ap, subst, ◌∙◌}
 use Rattle.std.specs.Prelude.{if◌then◌else◌}
-use Rattle.rcp_model.specs.Rosters.{RosterOf}
+use Rattle.rcp_base.specs.Roster.{RosterOf}
 use Rattle.rcp_model.specs.Sessions.{Phase, OpenConfirm, Closed, Peering, Doing, nothing, then_also, sending, keepalive, SessionState, Course, Answer, Input, Octets, Seat, Moment, End, is_closed, moment_in, course_of, answered, stepped, claim_answered, seated, tick, shut, answer}
 use Rattle.rcp_model.proofs.SessionLemmas.{nothing-then, then-nothing, then-assoc, answer-closed, answer-octets, answer-seat, answer-moment, answer-end}
 use Rattle.session_core.specs.declared.actions.Actions.{Actions}

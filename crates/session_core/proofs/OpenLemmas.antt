@@ -3,7 +3,7 @@ use Rattle.std.proofs.Common.{◌≡◌, ℕ, Bool, true, false, List, [], Optio
 use Rattle.std.specs.Prelude.{is_some}
 use Rattle.bgp_msg.specs.Opened.{fault_but_identifier, is_behind_identifier}
 use Rattle.bgp_msg.proofs.Offers.{open_fault-by_identifier}
-use Rattle.rcp_model.specs.Rosters.{RosterOf}
+use Rattle.rcp_base.specs.Roster.{RosterOf}
 use Rattle.rcp_model.specs.Messages.{FaultOf, fault}
 use Rattle.rcp_model.specs.Opens.{open_fields}
 use Rattle.rcp_model.specs.Sessions.{slot_by_identifier, is_known, opening_fault}

@@ -2,7 +2,7 @@
 use Rattle.std.proofs.Common.{◌≡◌, ℕ, Bool, true, false, ◌==◌, List, [], ◌∷◌, refl, sym, subst, ◌∙◌}
 use Rattle.std.specs.Prelude.{if◌then◌else◌}
 use Rattle.std.proofs.lemmas.Bool.{eqb-true, eq-eqb}
-use Rattle.rcp_model.specs.Rosters.{RosterOf}
+use Rattle.rcp_base.specs.Roster.{RosterOf}
 use Rattle.rcp_model.specs.Sessions.{Established, Up, Peering, step, nothing, telling, opened, updated, notified, refused}
 use Rattle.session_core.specs.declared.table.TheConstants.{OPEN_SENT, OPEN_CONFIRM, ESTABLISHED}
 use Rattle.session_core.specs.declared.table.Rule.TheVariants.{Take, Obey}

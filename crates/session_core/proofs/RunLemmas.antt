@@ -1,6 +1,6 @@
 -- Octets read message by message run the course.
 use Rattle.std.proofs.Common.{◌≡◌, ℕ, true, false, List, [], take, drop, Option, Some, None, refl, sym, ap, ◌∙◌}
-use Rattle.rcp_model.specs.Rosters.{RosterOf}
+use Rattle.rcp_base.specs.Roster.{RosterOf}
 use Rattle.rcp_model.specs.Messages.{FaultOf, message_size}
 use Rattle.rcp_model.specs.Sessions.{Phase, OpenSent, Claiming, OpenConfirm, Established, Closed, is_closed, reads, Doing, nothing, then_also, failed, handle, Course, fault_in_front, with_fault, course_of}
 use Rattle.rcp_model.proofs.SessionLemmas.{preceded, preceded-twice, course-front, course-stop, course-claiming, course-closed, closed-is, then-nothing}

@@ -1,6 +1,5 @@
 -- The first fault of the body of an UPDATE, in the order of its checks.
 use Rattle.std.proofs.Common.{true, ◌≡◌, ℕ, ◌≤◌, not, eqb, List, [], ◌∷◌, ◌++◌, length, map, append_assoc, append-nil, Some, None, refl, sym, ap, subst, ◌∙◌, arith}
-use Rattle.std.specs.Int.{w16}
 use Rattle.bgp_fault.specs.declared.Data.{Data}
 use Rattle.bgp_fault.specs.declared.Data.TheVariants as extra
 use Rattle.bgp_fault.specs.declared.Fault.{Fault}
@@ -8,7 +7,7 @@ use Rattle.bgp_fault.specs.Faults.{IsWithin}
 use Rattle.bgp_msg.specs.Written.{data_length}
 use Rattle.bgp_msg.specs.Faults.{bare}
 use Rattle.rcp_model.specs.Messages.{FaultOf, fault}
-use Rattle.rcp_model.specs.Attributes.{attributes_in, attributes_fault}
+use Rattle.rcp_model.specs.Attributes.{attributes_in, attributes_fault, number_width}
 use Rattle.rcp_model.specs.Routes.{RouteFields, route_of}
 use Rattle.rcp_model.specs.Updates.{Changes, Sections, sections_of, prefixes_in, prefixes_fault, update_fault, changes_of}
 use Rattle.std.proofs.lemmas.Bool.{eqb-true}
@@ -16,25 +15,25 @@ use Rattle.session_core.specs.declared.update.Found.{Found}
 use Rattle.rcp_model.specs.Sessions.{Doing, SessionEvent, Announce, Withdraw, then_also, telling, changes_events}
 use Rattle.session_core.specs.Updates.{IsTold, not_announced}
 
-pub no_sections : (body : List ℕ) → sections_of body ≡ None → update_fault w16 body ≡ Some (fault 3 1 [])
+pub no_sections : (body : List ℕ) → sections_of body ≡ None → update_fault number_width body ≡ Some (fault 3 1 [])
 unfolding update_fault
 no_sections body none = rw (update_fault, none) refl
 
 module _ (body : List ℕ) (s : Sections) (are : sections_of body ≡ Some s) where
-  pub by_attributes : (why : FaultOf) → attributes_fault w16 (not (eqb (length s.nlri) 0)) s.attributes ≡ Some why → update_fault w16 body ≡ Some why
+  pub by_attributes : (why : FaultOf) → attributes_fault number_width (not (eqb (length s.nlri) 0)) s.attributes ≡ Some why → update_fault number_width body ≡ Some why
   unfolding update_fault
   by_attributes why is = rw (update_fault, are, is) refl
 
-  module _ (faultless : attributes_fault w16 (not (eqb (length s.nlri) 0)) s.attributes ≡ None) where
-    pub by_withdrawn : (why : FaultOf) → prefixes_fault s.withdrawn ≡ Some why → update_fault w16 body ≡ Some why
+  module _ (faultless : attributes_fault number_width (not (eqb (length s.nlri) 0)) s.attributes ≡ None) where
+    pub by_withdrawn : (why : FaultOf) → prefixes_fault s.withdrawn ≡ Some why → update_fault number_width body ≡ Some why
     unfolding update_fault
     by_withdrawn why is = rw (update_fault, are, faultless, is) refl
 
-    pub by_nlri : (why : FaultOf) → prefixes_fault s.withdrawn ≡ None → prefixes_fault s.nlri ≡ Some why → update_fault w16 body ≡ Some why
+    pub by_nlri : (why : FaultOf) → prefixes_fault s.withdrawn ≡ None → prefixes_fault s.nlri ≡ Some why → update_fault number_width body ≡ Some why
     unfolding update_fault
     by_nlri why none is = rw (update_fault, are, faultless, none, is) refl
 
-    pub no_fault : prefixes_fault s.withdrawn ≡ None → prefixes_fault s.nlri ≡ None → update_fault w16 body ≡ None
+    pub no_fault : prefixes_fault s.withdrawn ≡ None → prefixes_fault s.nlri ≡ None → update_fault number_width body ≡ None
     unfolding update_fault
     no_fault none is = rw (update_fault, are, faultless, none, is) refl
 
@@ -64,7 +63,7 @@ told-besides old more new is = rw (append-nil old.sent, is) refl
 
 -- the withdrawn routes are told, and then the NLRI
 pub told-both : (body withdrawn attributes nlri : List ℕ) → sections_of body ≡ Some (record { withdrawn = withdrawn; attributes = attributes; nlri = nlri })
-    → (as_number : ℕ) (route : RouteFields) → route ≡ route_of w16 as_number (attributes_in attributes)
+    → (as_number : ℕ) (route : RouteFields) → route ≡ route_of number_width as_number (attributes_in attributes)
     → (old middle new : List SessionEvent) → middle ≡ old ++ map Withdraw (not_announced nlri (prefixes_in withdrawn)) → new ≡ middle ++ map (λ p. Announce p route) (prefixes_in nlri)
     → new ≡ old ++ changes_events as_number (changes_of body)
 told-both body withdrawn attributes nlri are as_number route of old middle new first second =

@@ -1,6 +1,6 @@
 -- Octets that come in pieces.
 use Rattle.std.specs.Prelude.{◌≡◌, ℕ, List, [], ◌∷◌}
-use Rattle.rcp_model.specs.Rosters.{RosterOf}
+use Rattle.rcp_base.specs.Roster.{RosterOf}
 use Rattle.rcp_model.specs.Sessions.{Doing, Octets, nothing, then_also, answer}
 use Rattle.session_core.specs.declared.actions.Actions.{Actions}
 use Rattle.session_core.specs.Shown.{doing_of}

@@ -2,7 +2,7 @@
 use Rattle.std.specs.Prelude.{ℕ, ◌==◌, List, [], ◌∷◌, Option, Some, None, if◌then◌else◌}
 use Rattle.case_table.specs.declared.Row.{Row}
 use Rattle.case_table.specs.Rows.{row_of}
-use Rattle.rcp_model.specs.Rosters.{RosterOf}
+use Rattle.rcp_base.specs.Roster.{RosterOf}
 use Rattle.rcp_model.specs.Sessions.{Established, Up, Step, Peering, step, nothing, telling, opened, updated, notified, refused}
 use Rattle.session_core.specs.declared.table.Rule.{Rule}
 use Rattle.session_core.specs.declared.table.Rule.TheVariants.{Take, Note, Obey, Refuse}

@@ -1,11 +1,10 @@
 -- What reading the body of an UPDATE says of its first fault.
 use Rattle.std.specs.Prelude.{◌≡◌, ℕ, ◌≤◌, List, filter, not, Some}
-use Rattle.std.specs.Int.{w16}
 use Rattle.bgp_fault.specs.Faults.{IsWithin}
 use Rattle.bgp_msg.specs.Written.{data_length}
 use Rattle.path_attrs.specs.Refusals.{fault_in}
 use Rattle.rcp_model.specs.Messages.{FaultOf}
-use Rattle.rcp_model.specs.Attributes.{Attribute, attributes_in}
+use Rattle.rcp_model.specs.Attributes.{Attribute, attributes_in, number_width}
 use Rattle.rcp_model.specs.Routes.{route_of}
 use Rattle.rcp_base.specs.IpPrefix.{IpPrefix}
 use Rattle.rcp_base.specs.Maps.{is_among}
@@ -18,7 +17,7 @@ use Rattle.session_core.specs.declared.update.Unread.TheVariants.{Faulty, NoMemo
 pub record Says (body withdrawn nlri : List ℕ) (attributes : List Attribute) : Type 0 where
   pub octets : List ℕ
   pub sections : sections_of body ≡ Some (record { withdrawn = withdrawn; attributes = octets; nlri = nlri })
-  pub same_route : (as_number : ℕ) → route_of w16 as_number attributes ≡ route_of w16 as_number (attributes_in octets)
+  pub same_route : (as_number : ℕ) → route_of number_width as_number attributes ≡ route_of number_width as_number (attributes_in octets)
 
 -- what holds of the fault, if memory did not run out
 abbrev pub IfFaulty : Unread → (Found → Type 0) → Type 0
@@ -35,7 +34,7 @@ pub record IsTold (found : Found) : Type 0 where
 
 -- the first fault of the body
 pub record IsFirst (body : List ℕ) (found : Found) : Type 0 where
-  pub first : update_fault w16 body ≡ Some (fault_of found)
+  pub first : update_fault number_width body ≡ Some (fault_of found)
   pub told : IsTold found
 
 -- these prefixes without those of a section

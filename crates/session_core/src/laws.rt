@@ -2,7 +2,7 @@
 
 ghost use Rattle.std.specs.Prelude.{◌≡◌, ℕ, List, ◌∷◌};
 ghost use Rattle.std.specs.List.{concat};
-ghost use Rattle.rcp_model.specs.Rosters.{RosterOf};
+ghost use Rattle.rcp_base.specs.Roster.{RosterOf};
 ghost use Rattle.rcp_model.specs.Sessions.{Doing};
 ghost use Rattle.session_core.specs.Held.{Held};
 ghost use Rattle.session_core.specs.Hearing.{Hears};

@@ -1,7 +1,7 @@
 //! A session, and what comes to it.
 
 ghost use Rattle.std.specs.Prelude.{◌≡◌, ◌<◌, true, false, [], length, IfOk, OnOk, OnErr, if◌then◌else◌};
-ghost use Rattle.rcp_model.specs.Rosters.{RosterOf};
+ghost use Rattle.rcp_base.specs.Roster.{RosterOf};
 ghost use Rattle.rcp_model.specs.Sessions.{Octets, Seat, Moment, End, answer, begun, begun_established, course_of, seated, seat_taken, claim_answered, is_closed, Closed as ClosedPhase, seat_of, slot_in};
 ghost use Rattle.session_core.specs.Shown.{doing_of, phase_of, terms_of};
 ghost use Rattle.session_core.specs.Held.{Answers, AnswersOn, IsEnded, RunsOn};

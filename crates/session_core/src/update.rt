@@ -1,7 +1,7 @@
 //! The body of an UPDATE, read with its attributes.
 
 ghost use Rattle.std.specs.Prelude.{◌≡◌, ◌≤◌, ◌==◌, true, not, length, None, OnOk, IfOk, IfErr};
-ghost use Rattle.std.specs.Int.{w16};
+ghost use Rattle.rcp_model.specs.Attributes.{number_width};
 ghost use Rattle.rcp_model.specs.Attributes as attributes;
 ghost use Rattle.rcp_model.specs.Updates.{prefixes_fault, update_fault};
 ghost use Rattle.session_core.specs.Updates.{Says, IfFaulty, IsFirst};
@@ -39,7 +39,7 @@ pub enum Unread<'a> {
 /// that of its section lengths, of its attributes, of its withdrawn routes, of its NLRI.
 pub fn read_body(alloc: Global, body: &[u8]) -> Result<FaultlessUpdate<'_>, Unread<'_>>
     requires { length body.now ≤ 4077 }
-    ensures faultless { OnOk result (update_fault w16 body.now ≡ None) }
+    ensures faultless { OnOk result (update_fault number_width body.now ≡ None) }
     ensures read { IfOk result (λ u. Says body.now u.withdrawn.now u.nlri.now u.attrs) }
     ensures withdrawn { IfOk result (λ u. prefixes_fault u.withdrawn.now ≡ None) }
     ensures nlri { IfOk result (λ u. prefixes_fault u.nlri.now ≡ None) }

@@ -3,7 +3,7 @@ use Rattle.std.proofs.Common.{◌≡◌, ℕ, ◌+◌, ◌<◌, ◌≤◌, List,
 use Rattle.std.specs.Prelude.{flat_map, IfSome, AllPairs, IsTrue}
 use Rattle.std.specs.List.{AllByRecursion}
 use Rattle.std.proofs.lemmas.List.{take_more, take_all, map-append}
-use Rattle.rcp_model.specs.Maps.{is_before}
+use Rattle.rcp_base.specs.Maps.{is_before}
 use Rattle.rcp_model.specs.Cells.{Cell, IsSendable, Carries}
 use Rattle.rcp_model.specs.Packing.{Group, groups, group_updates, packed}
 use Rattle.rcp_model.proofs.PackingLemmas.{packed-carries, map-pairs}

@@ -1,7 +1,7 @@
 //! Cells in groups that are found by a number of their attribute octets.
 
 ghost use Rattle.std.specs.Prelude.{◌≡◌, ◌≢◌, ℕ, ◌<◌, ◌≤◌, map, length, IfOk, IfSome, OnOk, All, AllPairs, IsTrue};
-ghost use Rattle.rcp_model.specs.Maps.{is_before};
+ghost use Rattle.rcp_base.specs.Maps.{is_before};
 ghost use Rattle.rcp_model.specs.Cells.{Carries};
 ghost use Rattle.rcp_model.specs.Packing.{packed};
 ghost use Rattle.update_pack.specs.Grouping.{put_in};

@@ -2,7 +2,7 @@
 
 ghost use Rattle.std.specs.Prelude.{◌≡◌, ℕ, ◌<◌, ◌≤◌, List, map, length, Some, None, Option, IfOk, OnOk, AllPairs, IsTrue};
 ghost use Rattle.std.specs.List.{AllByRecursion};
-ghost use Rattle.rcp_model.specs.Maps.{is_before};
+ghost use Rattle.rcp_base.specs.Maps.{is_before};
 ghost use Rattle.rcp_model.specs.Cells.{IsSendable, Carries};
 ghost use Rattle.rcp_model.specs.Packing.{packed};
 ghost use Rattle.update_pack.specs.Values.{value_in, octet_count};

@@ -2,7 +2,7 @@
 
 ghost use Rattle.std.specs.Prelude.{◌≡◌, ◌≢◌, ℕ, ◌<◌, ◌↔◌, List, [], Some, None, Contains, AllPairs, IsSome};
 ghost use Rattle.rcp_base.specs.declared.names.Member.{Member};
-ghost use Rattle.rcp_model.specs.declared.event.Edge.{Edge};
+ghost use Rattle.rcp_base.specs.declared.names.Edge.{Edge};
 ghost use Rattle.rcp_model.specs.Decision.{Contender, tied, IsNearest};
 ghost use Rattle.rcp_model.specs.RouteServer.{Domain, Announced, slot_cost, candidates, choice_of, offer, IsCandidate};
 

@@ -2,9 +2,10 @@
 
 ghost use Rattle.std.specs.Prelude.{◌≡◌, ℕ, true, List, [], ◌∷◌, map};
 ghost use Rattle.std.specs.List.{concat, AllByRecursion};
-ghost use Rattle.rcp_model.specs.Rosters.{RosterOf};
+ghost use Rattle.rcp_base.specs.Roster.{RosterOf};
 ghost use Rattle.rcp_model.specs.Sessions.{SessionState, Input, Octets, is_closed, nothing, answer, answers};
-ghost use Rattle.rcp_model.specs.Telling.{AreOctets, BringsOctets, IsTold};
+ghost use Rattle.rcp_base.specs.Octets.{AreOctets};
+ghost use Rattle.rcp_model.specs.Telling.{BringsOctets, IsTold};
 
 /// A closed session stays closed, and does nothing, whatever comes.
 pub fn closed_session_stays_closed()

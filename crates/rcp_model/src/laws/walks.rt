@@ -3,7 +3,7 @@
 
 ghost use Rattle.std.specs.Prelude.{◌≡◌, ℕ, ◌+◌, ◌≤◌, ◌↔◌, IsTrue, List, Option, Some, Contains, IfSome, IsSomeAnd};
 ghost use Rattle.std.specs.Cmp.{IsEquivalence};
-ghost use Rattle.rcp_model.specs.declared.event.Edge.{Edge};
+ghost use Rattle.rcp_base.specs.declared.names.Edge.{Edge};
 ghost use Rattle.rcp_model.specs.Costs.{Walk, IsCost, IsTwoWay, cost, is_reached};
 
 /// The cost that is computed is the sum of some walk, and no walk has a lower one. It is none where there is no walk.

@@ -2,7 +2,7 @@
 
 ghost use Rattle.std.specs.Prelude.{◌≡◌, ◌^◌, ◌<◌, ◌≤◌, ◌++◌, ◌∷◌, [], ℕ, length, option_map, OnOk, IfOk, IfSome};
 ghost use Rattle.std.specs.List.{flat_map, position, AllByRecursion};
-ghost use Rattle.rcp_model.specs.Maps.{get_at, set_at, same_prefix};
+ghost use Rattle.rcp_base.specs.Maps.{get_at, set_at, same_prefix};
 ghost use Rattle.rcp_model.specs.Edges.{rising_edges};
 ghost use Rattle.rcp_model.specs.LinkState.{same_number};
 ghost use Rattle.rcp_model.specs.RouteServer.{slot_cost};

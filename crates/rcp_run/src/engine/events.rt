@@ -2,9 +2,9 @@
 
 ghost use Rattle.std.specs.Prelude.{◌≡◌, ℕ, List, map, OnOk, [], Some, None};
 ghost use Rattle.std.specs.List.{position, AllByRecursion};
-ghost use Rattle.rcp_model.specs.Maps.{put_at};
+ghost use Rattle.rcp_base.specs.Maps.{put_at};
 ghost use Rattle.rcp_model.specs.LinkState.{same_number};
-ghost use Rattle.rcp_model.specs.declared.event.Edge.{Edge};
+ghost use Rattle.rcp_base.specs.declared.names.Edge.{Edge};
 ghost use Rattle.rcp_model.specs.RouteServer.{Domain, Up, Down, Change, after, after_all, is_connected};
 ghost use Rattle.rcp_model.specs.Telling.{IsRouteOf, IsTold};
 ghost use Rattle.feed_meaning.specs.SessionTurns.{server_event};

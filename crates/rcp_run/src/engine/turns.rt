@@ -4,11 +4,12 @@ ghost use Rattle.std.specs.Prelude.{◌≡◌, ◌<◌, ◌+◌, ◌++◌, ◌&&
 ghost use Rattle.std.specs.List.{list_any, position, remove, flat_map, AllByRecursion};
 ghost use Rattle.rcp_base.specs.Feed.{moment_of};
 ghost use Rattle.rcp_model.specs.LinkState.{same_number};
-ghost use Rattle.rcp_model.specs.declared.event.Edge.{Edge};
-ghost use Rattle.rcp_model.specs.Rosters.{RosterOf};
+ghost use Rattle.rcp_base.specs.declared.names.Edge.{Edge};
+ghost use Rattle.rcp_base.specs.Roster.{RosterOf};
 ghost use Rattle.rcp_model.specs.RouteServer.{Domain, after_all};
 ghost use Rattle.rcp_model.specs.Sessions.{Moment, End, Doing, is_closed, then_also, seat_taken, seat_of};
-ghost use Rattle.rcp_model.specs.Telling.{AreOctets, IsTold};
+ghost use Rattle.rcp_base.specs.Octets.{AreOctets};
+ghost use Rattle.rcp_model.specs.Telling.{IsTold};
 ghost use Rattle.feed_meaning.specs.Platform.{Platform};
 ghost use Rattle.feed_meaning.specs.SessionTurns.{simple_turn, octets_turn, ready_turn, slot_named, is_free, is_slot, seat_events, end_events, turn_events, turn_output, after_turns};
 ghost use Rattle.feed_meaning.specs.OutRecords.{messages_to, end_record};

@@ -4,7 +4,7 @@ use Rattle.std.proofs.lemmas.List.{get_or_default}
 use Rattle.std.proofs.lemmas.List.Sorted.{IsPartitionPoint-from_clause}
 use Rattle.std.specs.List.Sorted.{IsPartitionPoint}
 use Rattle.rcp_model.specs.Edges.{is_edge_before}
-use Rattle.rcp_model.specs.declared.event.Edge.{Edge}
+use Rattle.rcp_base.specs.declared.names.Edge.{Edge}
 use Rattle.cost_rows.proofs.PlaceLemmas.{before_partitions, absent_at, include_new}
 use Rattle.cost_rows.proofs.graph.find.Goals as goal
 use Rattle.cost_rows.proofs.graph.find.Goals.{else-place-edges-via-then-place-edges+else-eq, else-place-edges-via-else-place-edges}

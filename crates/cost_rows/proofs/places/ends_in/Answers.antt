@@ -1,6 +1,6 @@
 use Rattle.std.proofs.Common.{◌≡◌, Some, Contains, slice_get, subst, sym}
 use Rattle.std.proofs.lemmas.List.Elements.{Contains-get_or}
-use Rattle.rcp_model.specs.declared.event.Edge.{Edge}
+use Rattle.rcp_base.specs.declared.names.Edge.{Edge}
 use Rattle.cost_rows.proofs.IndexLemmas.{zip_more}
 use Rattle.cost_rows.proofs.places.ends_in.Goals as goal
 

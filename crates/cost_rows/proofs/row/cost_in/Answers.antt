@@ -2,7 +2,7 @@ use Rattle.std.proofs.Common.{◌≡◌, nat_lt, Some, None, slice_get, true, fa
 use Rattle.std.specs.List.Sorted.{IsPartitionPoint}
 use Rattle.std.proofs.lemmas.List.Sorted.{IsPartitionPoint-from_clause}
 use Rattle.std.proofs.lemmas.Option.{slice_get_past, slice_get_read}
-use Rattle.rcp_model.specs.Maps.{get_at}
+use Rattle.rcp_base.specs.Maps.{get_at}
 use Rattle.rcp_model.specs.LinkState.{same_number}
 use Rattle.cost_rows.proofs.LookupLemmas.{routers_partition, get_at_place, cost_of_pair}
 use Rattle.cost_rows.proofs.row.cost_in.Goals as goal

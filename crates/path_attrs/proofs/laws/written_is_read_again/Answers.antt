@@ -1,11 +1,10 @@
 use Rattle.std.proofs.Common.{◌≡◌, ℕ, List, sym, ◌∙◌}
-use Rattle.rcp_model.specs.Attributes.{attributes_in, canonical_octets}
+use Rattle.rcp_model.specs.Attributes.{attributes_in, canonical_octets, number_width}
 use Rattle.rcp_model.proofs.AttributeLemmas.{IsShort-attributes_in}
 use Rattle.rcp_model.proofs.CanonicalLemmas.{canonical_octets_again}
 use Rattle.rcp_model.proofs.FaultlessLemmas.{canonical_octets-faultless}
 use Rattle.rcp_model.proofs.RouteLemmas.{route_again}
 use Rattle.path_attrs.specs.Readings.{written_of}
-use Rattle.path_attrs.specs.Width.{number_width}
 use Rattle.path_attrs.proofs.Again.{canonical_octets-sent_on, route_of-sent_on}
 use Rattle.path_attrs.proofs.laws.written_is_read_again.Goals as goal
 

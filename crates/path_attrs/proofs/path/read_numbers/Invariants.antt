@@ -1,8 +1,8 @@
 use Rattle.std.proofs.Common.{◌≡◌, ◌%◌, ◌++◌, length}
 use Rattle.std.specs.Int.{byte_len}
 use Rattle.std.specs.List.{flat_map}
-use Rattle.rcp_model.specs.Attributes.{numbers_in}
-use Rattle.path_attrs.specs.Width.{number_width, number_octets}
+use Rattle.rcp_model.specs.Attributes.{numbers_in, number_width}
+use Rattle.path_attrs.specs.Width.{number_octets}
 use Rattle.path_attrs.proofs.path.read_numbers.Given as goal
 
 abbrev pub invariant-loop-number : goal.invariant-loop-number

@@ -1,8 +1,7 @@
 use Rattle.std.proofs.Common.{◌≡◌, refl, sym, ap, ◌∙◌, arith}
 use Rattle.std.proofs.lemmas.Result.{err_from_is_err_and}
-use Rattle.rcp_model.specs.Attributes.{attributes_in, canonical_octets, missing_fault}
+use Rattle.rcp_model.specs.Attributes.{attributes_in, canonical_octets, missing_fault, number_width}
 use Rattle.rcp_model.specs.Routes.{route_of}
-use Rattle.path_attrs.specs.Width.{number_width}
 use Rattle.path_attrs.proofs.Again.{canonical_octets-sent_on, route_of-sent_on}
 use Rattle.path_attrs.proofs.Cutting.{IsBytes}
 use Rattle.path_attrs.proofs.Faultless.{sent_on-kept}

@@ -2,9 +2,8 @@ use Rattle.std.proofs.Common.{◌≡◌, [], ltb, sym, ap, ◌∙◌, refl, arit
 use Rattle.std.specs.Prelude.{unwrap_or, sum_by, ◌==◌}
 use Rattle.std.specs.Int.{w8, from_be_bytes}
 use Rattle.std.specs.List.{list_any}
-use Rattle.rcp_model.specs.Attributes.{ORIGIN, NEXT_HOP, MULTI_EXIT_DISC, LOCAL_PREF, value_of, canonical_octets}
+use Rattle.rcp_model.specs.Attributes.{ORIGIN, NEXT_HOP, MULTI_EXIT_DISC, LOCAL_PREF, value_of, canonical_octets, number_width}
 use Rattle.rcp_model.specs.Routes.{number_or, path_of, hops_of, neighbour_of, is_long, route_of}
-use Rattle.path_attrs.specs.Width.{number_width}
 use Rattle.rcp_model.proofs.CanonicalLemmas.{canonical_octets_again}
 use Rattle.rcp_model.proofs.RouteLemmas.{has_route_again}
 use Rattle.path_attrs.proofs.Hops.{hops_fit, value_fits, all_short}

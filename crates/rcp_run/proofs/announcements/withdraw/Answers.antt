@@ -1,6 +1,6 @@
 use Rattle.std.proofs.Common.{ap, sym, subst, ◌∙◌, List}
 use Rattle.std.specs.List.{AllByRecursion}
-use Rattle.rcp_model.specs.Maps.{without}
+use Rattle.rcp_base.specs.Maps.{without}
 use Rattle.rcp_model.specs.RouteServer.{same_place}
 use Rattle.rcp_model.proofs.ServerLemmas.{place_test}
 use Rattle.rcp_run.specs.State.{entry_in, announcements_in, IsKept}

@@ -1,7 +1,7 @@
 -- What is left without the router's announcement of the prefix is what was there without it.
 use Rattle.std.proofs.Common.{◌≡◌, ℕ, vec_len}
 use Rattle.std.specs.List.{AllByRecursion}
-use Rattle.rcp_model.specs.Maps.{without}
+use Rattle.rcp_base.specs.Maps.{without}
 use Rattle.rcp_model.specs.RouteServer.{same_place}
 use Rattle.rcp_run.specs.State.{announcements_in, IsKept}
 use Rattle.rcp_run.proofs.announcements.withdraw.Given as goal

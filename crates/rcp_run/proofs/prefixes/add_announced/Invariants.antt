@@ -1,6 +1,6 @@
 -- With the prefixes of the rest it has those of all.
 use Rattle.std.proofs.Common.{◌≡◌, drop}
-use Rattle.rcp_model.specs.Maps.{include_all}
+use Rattle.rcp_base.specs.Maps.{include_all}
 use Rattle.rcp_model.specs.RouteServer.{announced_prefixes}
 use Rattle.rcp_run.specs.State.{announcements_in}
 use Rattle.rcp_run.proofs.prefixes.add_announced.Given as goal

@@ -1,6 +1,6 @@
 -- With the router's prefixes of the rest it has all that the router announces.
 use Rattle.std.proofs.Common.{◌≡◌, drop}
-use Rattle.rcp_model.specs.Maps.{include_all}
+use Rattle.rcp_base.specs.Maps.{include_all}
 use Rattle.rcp_model.specs.RouteServer.{announced_prefixes, of_slot}
 use Rattle.rcp_run.specs.State.{announcements_in}
 use Rattle.rcp_run.proofs.prefixes.add_announced_by.Given as goal

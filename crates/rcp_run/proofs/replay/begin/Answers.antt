@@ -1,7 +1,7 @@
 use Rattle.std.proofs.Common.{◌≡◌, ℕ, List, Option, None, Err, sym, ap, ◌∙◌, subst}
 use Rattle.std.specs.Prelude.{IfSome}
 use Rattle.rcp_base.specs.Feed.{FeedState, FeedRecord, fault_of, after}
-use Rattle.rcp_model.specs.Rosters.{roster_in}
+use Rattle.rcp_base.specs.Roster.{roster_of}
 use Rattle.feed_format.specs.Reading.{Refuses, TakesLess}
 use Rattle.rcp_run.proofs.ReplayLemmas.{answers_from}
 use Rattle.rcp_run.proofs.BeginLemmas.{first-refused, faulty_roster-ends, begins, goes_with_first}
@@ -22,7 +22,7 @@ pub returns-in-Ok-read-clause-goes_on : goal.returns-in-Ok-read-clause-goes_on
 returns-in-Ok-read-clause-goes_on g c = λ octets told.
     let body_is : c.first.inside.body.items ≡ c.in-Ok.first.body = ap (λ (r : FeedRecord). r.body) c.first.view_is in
     let lawful = subst (λ (s : FeedState). fault_of s c.in-Ok.first ≡ None) c.requires c.in-Ok.ensures.«record».1 in
-    let on = begins octets c.in-Ok.first _ _ told c.in-Ok.ensures.octets c.in-Ok.ensures.«record».0 lawful c.in-Ok-read.roster (ap roster_in (sym (c.deref.ensures.value ∙ body_is)) ∙ c.in-Ok-read.ensures) in
+    let on = begins octets c.in-Ok.first _ _ told c.in-Ok.ensures.octets c.in-Ok.ensures.«record».0 lawful c.in-Ok-read.roster (ap roster_of (sym (c.deref.ensures.value ∙ body_is)) ∙ c.in-Ok-read.ensures) in
     record {
       rest = on.0;
       told = on.1;
@@ -36,4 +36,4 @@ returns-in-Err-Fault-clause-ends g c = λ octets taken told.
     let body_is : c.first.inside.body.items ≡ c.in-Ok.first.body = ap (λ (r : FeedRecord). r.body) c.first.view_is in
     let lawful = subst (λ (s : FeedState). fault_of s c.in-Ok.first ≡ None) c.requires c.in-Ok.ensures.«record».1 in
     rw (c.in-Err-Fault.line-is, c.in-Err-Fault.why-is) (faulty_roster-ends octets c.in-Ok.first _ _ told c.in-Ok.ensures.octets c.in-Ok.ensures.«record».0 lawful c.in-Err-Fault.line c.in-Err-Fault.why taken
-    (ap roster_in (sym (c.deref.ensures.value ∙ body_is)) ∙ (rw c.in-Err-Fault.field-0-is at c.in-Err-Fault.ensures)))
+    (ap roster_of (sym (c.deref.ensures.value ∙ body_is)) ∙ (rw c.in-Err-Fault.field-0-is at c.in-Err-Fault.ensures)))

@@ -1,6 +1,6 @@
 use Rattle.std.proofs.Common.{not, ap, sym, ◌∙◌, ℕ, List, Option}
 use Rattle.std.specs.Prelude.{Some}
-use Rattle.rcp_model.specs.Maps.{same_prefix}
+use Rattle.rcp_base.specs.Maps.{same_prefix}
 use Rattle.rcp_model.specs.RouteServer.{same_octets}
 use Rattle.rcp_base.proofs.MapLemmas.{prefix_test}
 use Rattle.rcp_run.specs.State.{cell_in}

@@ -1,5 +1,5 @@
 use Rattle.std.proofs.Common.{ap, sym, ◌∙◌}
-use Rattle.rcp_model.specs.Maps.{same_prefix, without}
+use Rattle.rcp_base.specs.Maps.{same_prefix, without}
 use Rattle.rcp_base.proofs.MapLemmas.{prefix_test}
 use Rattle.rcp_run.specs.State.{cell_in, table_in}
 use Rattle.rcp_run.specs.declared.table.Cell.{Cell}

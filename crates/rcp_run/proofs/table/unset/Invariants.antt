@@ -1,6 +1,6 @@
 -- What is left without the prefix is what was there without it.
 use Rattle.std.proofs.Common.{◌≡◌, vec_len}
-use Rattle.rcp_model.specs.Maps.{without, same_prefix}
+use Rattle.rcp_base.specs.Maps.{without, same_prefix}
 use Rattle.rcp_run.specs.State.{table_in}
 use Rattle.rcp_run.proofs.table.unset.Given as goal
 

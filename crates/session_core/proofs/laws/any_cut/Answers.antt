@@ -1,5 +1,5 @@
 use Rattle.std.proofs.Common.{◌≡◌, ℕ, List, [], ◌∷◌, map, sym, ap, ◌∙◌}
-use Rattle.rcp_model.specs.Rosters.{RosterOf}
+use Rattle.rcp_base.specs.Roster.{RosterOf}
 use Rattle.rcp_model.specs.Sessions.{SessionState, Doing, Answer, Octets, then_also, answer, answers}
 use Rattle.rcp_model.proofs.SessionLemmas.{any_pieces}
 use Rattle.session_core.specs.Held.{Held}

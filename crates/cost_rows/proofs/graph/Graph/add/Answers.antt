@@ -1,5 +1,5 @@
 use Rattle.std.proofs.Common.{◌≡◌, List, Result, Ok, Err, OnOk, OnErr, sym, subst}
-use Rattle.rcp_model.specs.declared.event.Edge.{Edge}
+use Rattle.rcp_base.specs.declared.names.Edge.{Edge}
 use Rattle.rcp_model.specs.Graphs.{IsGraph}
 use Rattle.rcp_model.proofs.GraphLemmas.{graph-include}
 use Rattle.cost_rows.proofs.graph.Graph.add.Goals as goal

@@ -1,7 +1,6 @@
 use Rattle.std.proofs.Common.{◌≡◌, ◌++◌, length}
-use Rattle.rcp_model.specs.Attributes.{is_faulty_path, segments_in}
+use Rattle.rcp_model.specs.Attributes.{is_faulty_path, segments_in, number_width}
 use Rattle.path_attrs.specs.Segments.{path_octets}
-use Rattle.path_attrs.specs.Width.{number_width}
 use Rattle.path_attrs.proofs.path.Path.read.Given as goal
 
 abbrev pub invariant-loop-rest : goal.invariant-loop-rest

@@ -1,7 +1,8 @@
 use Rattle.std.proofs.Common.{◌≡◌, Some, List, sym, ap, subst, ◌∙◌, refl}
 use Rattle.std.specs.List.{AllByRecursion}
 use Rattle.rcp_model.specs.Sessions.{Answer, begun_established}
-use Rattle.rcp_model.specs.Telling.{AreOctets, IsTold}
+use Rattle.rcp_base.specs.Octets.{AreOctets}
+use Rattle.rcp_model.specs.Telling.{IsTold}
 use Rattle.feed_meaning.specs.SessionTurns.{Turn, turn, is_free, after_turns}
 use Rattle.feed_meaning.specs.Platform.{domain_of}
 use Rattle.session_core.specs.Shown.{doing_of}

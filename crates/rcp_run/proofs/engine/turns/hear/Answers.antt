@@ -1,5 +1,5 @@
 use Rattle.std.proofs.Common.{◌≡◌, ◌+◌, ◌&&◌, not, take, drop, Option, List, ℕ, set, sym, ap, subst, ◌∙◌, refl}
-use Rattle.rcp_model.specs.Rosters.{RosterOf}
+use Rattle.rcp_base.specs.Roster.{RosterOf}
 use Rattle.rcp_model.specs.Sessions.{Octets, Seat, answer, seat_of}
 use Rattle.feed_meaning.specs.SessionTurns.{octets_turn, is_slot, is_free}
 use Rattle.session_core.specs.Held.{Answers}

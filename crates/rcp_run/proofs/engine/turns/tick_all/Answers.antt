@@ -1,5 +1,5 @@
 use Rattle.std.proofs.Common.{◌<◌, ◌≤◌, ℕ, [], length, ap, refl, arith}
-use Rattle.rcp_model.specs.Rosters.{RosterOf}
+use Rattle.rcp_base.specs.Roster.{RosterOf}
 use Rattle.rcp_model.specs.Sessions.{Moment}
 use Rattle.rcp_model.specs.RouteServer.{Domain}
 use Rattle.feed_meaning.specs.SessionTurns.{simple_turn}

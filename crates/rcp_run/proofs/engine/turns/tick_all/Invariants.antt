@@ -1,8 +1,8 @@
 -- The sessions so far had the moment, and with what the turns of the others do it is what all of them do.
 use Rattle.std.proofs.Common.{◌≡◌, ℕ, List, vec_len}
 use Rattle.std.specs.List.{AllByRecursion}
-use Rattle.rcp_model.specs.Rosters.{RosterOf}
-use Rattle.rcp_model.specs.declared.event.Edge.{Edge}
+use Rattle.rcp_base.specs.Roster.{RosterOf}
+use Rattle.rcp_base.specs.declared.names.Edge.{Edge}
 use Rattle.rcp_model.specs.RouteServer.{Domain}
 use Rattle.rcp_run.specs.State.{IsServer, IsWhole, AreFramed, connections_in, server_in}
 use Rattle.rcp_run.proofs.TickLemmas.{Ticking}

@@ -1,7 +1,7 @@
 use Rattle.std.proofs.Common.{◌<◌, length, eqb, position, ap, sym, ◌∙◌, arith}
 use Rattle.rcp_base.specs.declared.names.Member.{Member}
-use Rattle.rcp_model.specs.Rosters.{RosterOf}
-use Rattle.rcp_model.specs.Rosters.{slot_from}
+use Rattle.rcp_base.specs.Roster.{RosterOf}
+use Rattle.rcp_base.specs.Roster.{slot_from}
 use Rattle.roster.proofs.SlotLemmas.{own_place, first-slot}
 use Rattle.roster.proofs.rosters.Roster.member.Goals as goal
 use Rattle.roster.proofs.rosters.Roster.member.Goals.{After-get}

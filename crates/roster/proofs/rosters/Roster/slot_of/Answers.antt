@@ -1,6 +1,6 @@
 use Rattle.std.proofs.Common.{ap, sym, ◌∙◌}
-use Rattle.rcp_model.specs.Rosters.{RosterOf}
-use Rattle.rcp_model.specs.Rosters.{slot_from}
+use Rattle.rcp_base.specs.Roster.{RosterOf}
+use Rattle.rcp_base.specs.Roster.{slot_from}
 use Rattle.roster.proofs.SlotLemmas.{first-slot}
 use Rattle.roster.proofs.rosters.Roster.slot_of.Goals as goal
 

@@ -1,7 +1,7 @@
 use Rattle.std.proofs.Common.{◌≡◌, List, filter, not, eqb, refl, sym, ap, subst, ◌∙◌, rules}
 use Rattle.std.specs.List.{AllByRecursion}
 use Rattle.std.proofs.lemmas.Fn.{filter_same}
-use Rattle.rcp_model.specs.Maps.{include_all}
+use Rattle.rcp_base.specs.Maps.{include_all}
 use Rattle.rcp_model.specs.RouteServer.{announced_prefixes, of_slot}
 use Rattle.rcp_run.specs.declared.announcements.Announcement.{Announcement}
 use Rattle.rcp_run.specs.declared.engine.events.Router.{Router}

@@ -1,5 +1,5 @@
 use Rattle.std.proofs.Common.{List, refl, sym, ap, subst, ◌∙◌}
-use Rattle.rcp_model.specs.Maps.{put_at, include_all}
+use Rattle.rcp_base.specs.Maps.{put_at, include_all}
 use Rattle.rcp_model.specs.LinkState.{same_number}
 use Rattle.rcp_model.specs.RouteServer.{announced_prefixes}
 use Rattle.rcp_run.specs.declared.announcements.Announcement.{Announcement}
