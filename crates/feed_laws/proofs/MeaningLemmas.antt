@@ -9,8 +9,7 @@ use Rattle.rcp_base.specs.declared.kinds.FeedWhy.{FeedWhy}
 use Rattle.rcp_base.specs.declared.kinds.FeedWhy.TheVariants as why
 use Rattle.rcp_base.specs.Octets.{AreOctets}
 use Rattle.rcp_base.specs.Feed.{FeedState, FeedRecord, Feed, IsRecord, is_finish, is_roster, has_length, before_feeds, record_octets, fault_of, fault_in_front, front, after, feed_of}
-use Rattle.rcp_base.specs.Roster.{FaultyLine}
-use Rattle.rcp_model.specs.Rosters.{RosterOf, roster_in}
+use Rattle.rcp_base.specs.Roster.{FaultyLine, RosterOf, roster_of}
 use Rattle.feed_meaning.specs.WholeFeeds.{roster_fault, FeedEnd, Finished, FaultyRecord, FaultyRoster, end_of, read_of, with_roster, meaning_of, meaning_by, feed_meaning}
 use Rattle.feed_format.proofs.FrontLemmas.{passes_first}
 use Rattle.feed_format.proofs.AgainLemmas.{lawful_parts, front_again}
@@ -171,7 +170,7 @@ module _ (octets : List ℕ) (first : FeedRecord) (items : List FeedRecord) (sta
   parts : octets ≡ record_octets first ++ (flat_map record_octets items ++ left)
   parts = whole ∙ append_assoc (record_octets first) (flat_map record_octets items) left
 
-  by_roster : (found : Result RosterOf FaultyLine) → roster_in first.body ≡ found → IsMeaningOf octets (with_roster roster_fault feed 1 items found) (with_roster roster_fault feed 1 items found).roster
+  by_roster : (found : Result RosterOf FaultyLine) → roster_of first.body ≡ found → IsMeaningOf octets (with_roster roster_fault feed 1 items found) (with_roster roster_fault feed 1 items found).roster
   by_roster (Err fault) is = (refl, (first, flat_map record_octets items ++ left, refl, ap (front before_feeds) parts ∙ front_again before_feeds first (flat_map record_octets items ++ left) each.0 each.1, is))
   by_roster (Ok roster) is =
       let other = first_is_roster first each.1 in
@@ -192,7 +191,7 @@ by_items : (octets : List ℕ) (items : List FeedRecord) (state : FeedState) (fa
     → (let feed : Feed = record { items = items; state = state; fault = fault; left = left } in IsMeaningOf octets (meaning_of roster_fault 1 feed items) (meaning_of roster_fault 1 feed items).roster)
 by_items octets [] state None left whole each end = absurd (end_of_none end)
 by_items octets [] state (Some why) left whole each end = (refl, (refl, ap (fault_in_front before_feeds) whole ∙ end.1))
-by_items octets (first ∷ items) state fault left whole each end = by_roster octets first items state fault left whole each end (roster_in first.body) refl
+by_items octets (first ∷ items) state fault left whole each end = by_roster octets first items state fault left whole each end (roster_of first.body) refl
 
 pub meaning_is : (octets : List ℕ) → AreOctets octets → IsMeaningOf octets (feed_meaning octets) (feed_meaning octets).roster
 unfolding meaning_by

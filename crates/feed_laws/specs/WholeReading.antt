@@ -3,7 +3,7 @@ use Rattle.std.specs.Prelude.{◌≡◌, ℕ, ◌+◌, List, [], ◌∷◌, ◌+
 use Rattle.std.specs.List.{flat_map, AllByRecursion}
 use Rattle.rcp_base.specs.declared.kinds.FeedWhy.{FeedWhy}
 use Rattle.rcp_base.specs.Feed.{FeedState, FeedRecord, before_feeds, record_octets, fault_in_front, front}
-use Rattle.rcp_model.specs.Rosters.{RosterOf, roster_in}
+use Rattle.rcp_base.specs.Roster.{RosterOf, roster_of}
 use Rattle.feed_meaning.specs.WholeFeeds.{roster_fault, FeedEnd, Finished, FaultyRecord, FaultyRoster, FeedMeaning}
 use Rattle.feed_laws.specs.FeedReading.{state_after, AreFaultless, HaveNoFinish, EndInFinish}
 
@@ -25,7 +25,7 @@ pub record WithRoster (octets : List ℕ) (roster : RosterOf) (meaning : FeedMea
   pub rest : List ℕ
   pub whole : octets ≡ record_octets first ++ (flat_map record_octets meaning.items ++ rest)
   pub each : AreFaultless before_feeds (first ∷ meaning.items)
-  pub text : roster_in first.body ≡ Ok roster
+  pub text : roster_of first.body ≡ Ok roster
   pub known : AllByRecursion (λ item. roster_fault roster item ≡ None) meaning.items
   pub ends : EndsWith roster (state_after before_feeds (first ∷ meaning.items)) meaning.items rest meaning.left meaning.end
 
@@ -34,7 +34,7 @@ abbrev pub EndsBefore : List ℕ → FeedEnd → Type 0
 EndsBefore octets Finished = ⊥
 EndsBefore octets (FaultyRecord number why) = (number ≡ 1) × (fault_in_front before_feeds octets ≡ Some why)
 EndsBefore octets (FaultyRoster number fault) =
-    (first : FeedRecord) × (rest : List ℕ) × (number ≡ 1) × (front before_feeds octets ≡ Ok (first, rest)) × (roster_in first.body ≡ Err fault)
+    (first : FeedRecord) × (rest : List ℕ) × (number ≡ 1) × (front before_feeds octets ≡ Ok (first, rest)) × (roster_of first.body ≡ Err fault)
 
 abbrev pub IsMeaningOf : List ℕ → FeedMeaning → Option RosterOf → Type 0
 IsMeaningOf octets meaning None = (meaning.items ≡ []) × EndsBefore octets meaning.end
