@@ -5,3 +5,5 @@ pub mod RunLemmas
 pub mod ConnectionLemmas
 pub mod LinkLemmas
 pub mod MeaningLemmas
+pub mod LineLemmas
+pub mod RosterTextLemmas

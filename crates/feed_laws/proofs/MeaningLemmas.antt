@@ -9,8 +9,7 @@ use Rattle.rcp_base.specs.declared.kinds.FeedWhy.{FeedWhy}
 use Rattle.rcp_base.specs.declared.kinds.FeedWhy.TheVariants as why
 use Rattle.rcp_base.specs.Octets.{AreOctets}
 use Rattle.rcp_base.specs.Feed.{FeedState, FeedRecord, Feed, IsRecord, is_finish, is_roster, has_length, before_feeds, record_octets, fault_of, fault_in_front, front, after, feed_of}
-use Rattle.rcp_base.specs.Roster.{FaultyLine}
-use Rattle.rcp_base.specs.Roster.{RosterOf, roster_of}
+use Rattle.rcp_base.specs.Roster.{FaultyLine, RosterOf, roster_of}
 use Rattle.feed_meaning.specs.WholeFeeds.{roster_fault, FeedEnd, Finished, FaultyRecord, FaultyRoster, end_of, read_of, with_roster, meaning_of, meaning_by, feed_meaning}
 use Rattle.feed_format.proofs.FrontLemmas.{passes_first}
 use Rattle.feed_format.proofs.AgainLemmas.{lawful_parts, front_again}

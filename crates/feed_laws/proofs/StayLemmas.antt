@@ -1,11 +1,11 @@
 -- What octets do to a session, whatever they are: it keeps its seat, tells nothing before it has one, and claims one at most.
 use Rattle.std.proofs.Common.{◌≡◌, ℕ, Bool, true, false, cond, inl, inr, List, [], ◌∷◌, ◌++◌, drop, Option, Some, None, refl, sym, ap, ◌∙◌, subst, eqb}
 use Rattle.std.specs.Prelude.{unwrap_or}
-use Rattle.std.specs.Int.{w16}
 use Rattle.std.proofs.lemmas.Bool.{cases_Bool, cond_both, both_ways}
 use Rattle.rcp_model.specs.Messages.{FaultOf, fault, type_field, messages_in, rest_of}
+use Rattle.rcp_model.specs.Attributes.{number_width}
 use Rattle.rcp_model.specs.Updates.{update_fault, changes_of}
-use Rattle.rcp_model.specs.Rosters.{RosterOf}
+use Rattle.rcp_base.specs.Roster.{RosterOf}
 use Rattle.rcp_model.specs.Sessions.{Negotiated, Peering, Phase, OpenSent, Claiming, OpenConfirm, Established, Closed, is_closed, reads, SessionState, Ending, SessionEvent, Up, Doing, nothing, telling, later_of, then_also, Step, step, failed, refused, notified, opening_fault, negotiated, opened, changes_events, updated, read_at, handle, handle_all, with_fault, with_rest, course_of, Octets, Answer, moment_in, answer, seat_of}
 use Rattle.rcp_model.proofs.SessionLemmas.{later_of-none, then-nothing, answer-octets}
 
@@ -99,7 +99,7 @@ module _ (roster : RosterOf) (now : ℕ) where
     claim = λ slot e. (since, negotiated roster body, ap (λ (found : Option ℕ). Claiming since (unwrap_or found 0) (negotiated roster body)) e);
   }
 
-  stays-updated : (peering : Peering) (body : List ℕ) (found : Option FaultOf) → update_fault w16 body ≡ found → StaysBy (Established peering) (updated roster (read_at now peering) body)
+  stays-updated : (peering : Peering) (body : List ℕ) (found : Option FaultOf) → update_fault number_width body ≡ found → StaysBy (Established peering) (updated roster (read_at now peering) body)
   stays-updated peering body (Some why) is = rw (is, updated) (stays-failed (Established peering) why)
   stays-updated peering body None is =
       rw (is, updated) (stays-telling (Established peering) (Established (read_at now peering)) peering.slot (changes_events roster.as_number (changes_of body)) refl refl)
@@ -122,7 +122,7 @@ module _ (roster : RosterOf) (now : ℕ) where
       let other = cond (eqb (type_field message) 3) (notified (drop 19 message)) refused in
       let alive = step (Established (read_at now peering)) nothing in
       either (Established peering) (eqb (type_field message) 2) (updated roster (read_at now peering) (drop 19 message)) (cond (eqb (type_field message) 4) alive other)
-      (stays-updated peering (drop 19 message) (update_fault w16 (drop 19 message)) refl)
+      (stays-updated peering (drop 19 message) (update_fault number_width (drop 19 message)) refl)
       (either (Established peering) (eqb (type_field message) 4) alive other
       (stays-still (Established peering) (Established (read_at now peering)) refl)
       (stays-otherwise (Established peering) message))

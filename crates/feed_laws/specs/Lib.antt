@@ -1,3 +1,4 @@
 pub mod FeedReading
 pub mod Cuts
 pub mod WholeReading
+pub mod RosterTexts

@@ -3,3 +3,4 @@
 
 pub mod cuts;
 pub mod readings;
+pub mod rosters;
