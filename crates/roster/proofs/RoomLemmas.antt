@@ -3,7 +3,6 @@ use Rattle.std.proofs.Common.{◌≡◌, ℕ, ◌+◌, ◌≤◌, false, cond, L
 use Rattle.rcp_base.specs.declared.kinds.RosterWhy.{RosterWhy}
 use Rattle.rcp_base.specs.Roster.{Line, RosterOf, FaultyLine, Named, lines_of, is_skipped, line_of, line_fault, with_line, with_text, with_any_text, completed, complete, roster_from, roster_of}
 use Rattle.rcp_base.specs.Checks.{unless}
-use Rattle.rcp_model.specs.Rosters.{edged}
 use Rattle.roster.specs.Room.{takes_room, says_room, NamesSome}
 use Rattle.roster.specs.Drafts.{Takes, IsShort}
 use Rattle.roster.specs.Rosters.{Reads, IsRefusal}
@@ -59,6 +58,6 @@ pub refused : (text : List ℕ) (line : ℕ) (named after : Named) (before : Lis
     → roster_from line named (front ∷ rest) ≡ roster_of text → (stopped : Stop) → Takes (with_any_text named front) after (Err stopped) → (stopped ≡ stop.NoMemory → IsShort named front)
     → (r : RosterRefusal) → IsRefusal line stopped r → Reads text (Err r)
 refused text line named after before front rest parts place same (stop.Fault why) takes short r is =
-    subst (λ (r : RosterRefusal). Reads text (Err r)) (sym is) (ap edged (sym same ∙ ap (step line rest) takes))
+    subst (λ (r : RosterRefusal). Reads text (Err r)) (sym is) (sym same ∙ ap (step line rest) takes)
 refused text line named after before front rest parts place same stop.NoMemory takes short r is =
     subst (λ (r : RosterRefusal). Reads text (Err r)) (sym is) (names_some text line named before front rest parts place same (short refl))

@@ -1,6 +1,6 @@
 use Rattle.std.proofs.Common.{◌≡◌, ℕ, ◌≢◌, false, [], max, sym, ap, subst, ◌∙◌, refl}
 use Rattle.std.specs.Prelude.{if◌then◌else◌}
-use Rattle.rcp_model.specs.Rosters.{RosterOf}
+use Rattle.rcp_base.specs.Roster.{RosterOf}
 use Rattle.rcp_model.specs.Sessions.{SessionState, is_closed, Moment, tick, answer}
 use Rattle.session_core.specs.Shown.{phase_of}
 use Rattle.session_core.specs.Steps.{Takes}
