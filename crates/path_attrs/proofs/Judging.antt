@@ -15,9 +15,9 @@ use Rattle.rcp_base.specs.Cut.{cut}
 use Rattle.rcp_base.specs.Checks.{first_failing}
 use Rattle.rcp_model.specs.Messages.{FaultOf, fault}
 use Rattle.rcp_model.specs.Attributes as model
-use Rattle.rcp_model.specs.Attributes.{Attribute, ORIGIN, AS_PATH, NEXT_HOP, attribute_of, attribute_size, attributes_in, attribute_fault, attributes_fault, list_fault, missing_fault, or_else, is_recognised, is_optional, has_other_category, has_other_length, has_faulty_value, value_fault, number_width}
-use Rattle.path_attrs.specs.Refusals.{fault_in}
-use Rattle.path_attrs.specs.Readings.{own_fault, update_fault, faulty_value, piece_at, next_fault, malformed_list}
+use Rattle.rcp_model.specs.Attributes.{Attribute, ORIGIN, AS_PATH, NEXT_HOP, attribute_of, attribute_size, attributes_in, attribute_fault, attributes_fault, list_fault, missing_fault, or_else, is_recognised, is_optional, has_other_category, has_other_length, has_faulty_value, value_fault, is_kept, number_width}
+use Rattle.path_attrs.specs.Refusals.{KeepsOne, fault_in, update_fault}
+use Rattle.path_attrs.specs.Readings.{own_fault, faulty_value, piece_at, next_fault, malformed_list}
 use Rattle.path_attrs.proofs.Cutting.{cut-more, cut-none}
 use Rattle.path_attrs.proofs.Types.{has_kind}
 
@@ -73,6 +73,20 @@ attribute_fault-is body start len kinds =
     (rw (value_fault-is body start len a)
     (mapped (is_recognised a.kind) (is_optional a.flags) (has_other_category a) (has_other_length number_width a) (has_faulty_value number_width a) (fault_in body) (update_fault 2 span) (update_fault 4 span) (update_fault 5 span) (faulty_value a.kind span)))
 
+-- whether there is a fault doesn't hang on the place
+pub own_fault-anywhere : (a : Attribute) (s t : Data) → own_fault a s ≡ None → own_fault a t ≡ None
+own_fault-anywhere a s t none =
+    no_fault (is_recognised a.kind) (has_other_category a) (has_other_length number_width a) (has_faulty_value number_width a) (is_optional a.flags) _ _ _ _ _ _ _ _ none where
+      no_fault : (known other_flags other_length faulty optional : Bool) (f2 f4 f5 fv g2 g4 g5 gv : Fault)
+          → cond known (cond other_flags (Some f4) (cond other_length (Some f5) (cond faulty (Some fv) None))) (cond optional None (Some f2)) ≡ None
+          → cond known (cond other_flags (Some g4) (cond other_length (Some g5) (cond faulty (Some gv) None))) (cond optional None (Some g2)) ≡ None
+      no_fault true true other_length faulty optional f2 f4 f5 fv g2 g4 g5 gv e = absurd cc
+      no_fault true false true faulty optional f2 f4 f5 fv g2 g4 g5 gv e = absurd cc
+      no_fault true false false true optional f2 f4 f5 fv g2 g4 g5 gv e = absurd cc
+      no_fault true false false false optional f2 f4 f5 fv g2 g4 g5 gv e = refl
+      no_fault false other_flags other_length faulty true f2 f4 f5 fv g2 g4 g5 gv e = refl
+      no_fault false other_flags other_length faulty false f2 f4 f5 fv g2 g4 g5 gv e = absurd cc
+
 -- ---- its place
 
 -- how long a whole attribute is
@@ -109,13 +123,17 @@ cut-next body place len some =
 
 -- ---- one step of a reader
 
--- What a reader knows at a place: the attributes that are read, the types that have come, and that the first fault and the attributes of the body are those of what is left after these.
+-- What a reader knows at a place: the attributes that are read, the types that have come, that the first fault and the attributes of the body are those of what is left after these,
+-- and that the pieces in front have no fault.
 pub record IsReading (body : List ℕ) (place : ℕ) (seen : List Bool) (done : List Attribute) : Type 0 where
   pub kinds : List ℕ
   pub judged : list_fault number_width [] (cut attribute_size body).0 (cut attribute_size body).1 ≡ list_fault number_width kinds (cut attribute_size (drop place body)).0 (cut attribute_size (drop place body)).1
   pub are_read : attributes_in body ≡ done ++ attributes_in (drop place body)
   pub kinds_are : (kind : ℕ) → list_any (λ k. eqb k kind) kinds ≡ has_kind kind done
   pub marked : (kind : ℕ) → kind < 256 → slice_index_or seen kind false ≡ has_kind kind done
+  pub pieces : List (List ℕ)
+  pub in_order : (cut attribute_size body).0 ≡ pieces ++ (cut attribute_size (drop place body)).0
+  pub passed : (more : List (List ℕ)) → list_fault number_width [] (pieces ++ more) [] ≡ list_fault number_width kinds more []
 
 unmarked : (seen : List Bool) → list_all not seen ≡ true → (k : ℕ) → slice_index_or seen k false ≡ false
 unmarked [] none k = refl
@@ -123,7 +141,7 @@ unmarked (b ∷ seen) none zero = not-true b (and_parts (not b) (list_all not se
 unmarked (b ∷ seen) none (suc k) = unmarked seen (and_parts (not b) (list_all not seen) none).1 k
 
 pub reading-begins : (body : List ℕ) (seen : List Bool) → list_all not seen ≡ true → IsReading body 0 seen []
-reading-begins body seen none = record { kinds = []; judged = refl; are_read = refl; kinds_are = λ kind. refl; marked = λ kind small. unmarked seen none kind }
+reading-begins body seen none = record { kinds = []; judged = refl; are_read = refl; kinds_are = λ kind. refl; marked = λ kind small. unmarked seen none kind; pieces = []; in_order = refl; passed = λ more. refl }
 
 or_false : (a b : Bool) → (a || (b || false)) ≡ (b || a)
 or_false true true = refl
@@ -161,27 +179,71 @@ marks seen kind k has inside was = elim (cases_eq k kind) [
   | inr apart ↦ (let is : eqb kind k ≡ false = grind (arith, nat_tests) in rw is (get_or-set_other seen kind k true false apart ∙ was))
 ]
 
--- a faultless attribute of a new type: the reader goes on behind it
-pub reading-goes_on : (body : List ℕ) (place len : ℕ) (seen : List Bool) (done : List Attribute) → IsReading body place seen done → attribute_size (drop place body) ≡ Some len
-    → next_fault body place seen ≡ None → length seen ≡ 256 → slice_index (piece_at body place len) 1 < 256
-    → IsReading body (place + len) (slice_set seen (slice_index (piece_at body place len) 1) true) (done ++ attribute_of (piece_at body place len) ∷ [])
-    × (has_kind (slice_index (piece_at body place len) 1) done ≡ false)
-reading-goes_on body place len seen done now some none all octet =
-    let a = attribute_of (piece_at body place len) in
-    let kind = slice_index (piece_at body place len) 1 in
-    let parts = cond_none _ malformed_list (own_fault a (Span place len)) (sym (next_fault-whole body place len seen some) ∙ none) in
-    let fresh : has_kind kind done ≡ false = sym (now.marked kind octet) ∙ parts.0 in
-    let new_type : list_any (λ k. eqb k kind) now.kinds ≡ false = now.kinds_are kind ∙ fresh in
-    let faultless : attribute_fault number_width now.kinds (piece_at body place len) ≡ None = attribute_fault-is body place len now.kinds ∙ rw (new_type, parts.1) refl in (
-      record {
-        kinds = kind ∷ now.kinds;
-        judged = now.judged ∙ list_fault-whole body place len now.kinds some ∙ rw faultless refl;
-        are_read = now.are_read ∙ ap (λ (more : List Attribute). done ++ more) (attributes_in-whole body place len some) ∙ sym (append_assoc done (a ∷ []) (attributes_in (drop (place + len) body)));
-        kinds_are = λ k. ap (λ (t : Bool). eqb kind k || t) (now.kinds_are k) ∙ sym (has_kind-push k done a);
-        marked = λ k small. marks seen kind k (has_kind k done) (omega arith) (now.marked k small) ∙ sym (has_kind-push k done a);
-      },
-      fresh,
-    )
+list_fault-piece : (kinds : List ℕ) (piece : List ℕ) (more : List (List ℕ)) → attribute_fault number_width kinds piece ≡ None
+    → list_fault number_width kinds (piece ∷ more) [] ≡ list_fault number_width (slice_index piece 1 ∷ kinds) more []
+unfolding list_fault
+list_fault-piece kinds piece more none = rw none refl
+
+nothing_left : (kinds : List ℕ) → list_fault number_width kinds [] [] ≡ None
+unfolding list_fault
+nothing_left kinds = refl
+
+-- a whole attribute without fault, at the reader's place
+module _ (body : List ℕ) (place : ℕ) (seen : List Bool) (done : List Attribute) (now : IsReading body place seen done)
+    (piece : List ℕ) (whole : attribute_size (drop place body) ≡ Some (length piece)) (taken : piece ≡ piece_at body place (length piece))
+    (none : next_fault body place seen ≡ None) (octet : slice_index piece 1 < 256) where
+  passes : (has_kind (slice_index piece 1) done ≡ false) × (attribute_fault number_width now.kinds piece ≡ None)
+  passes =
+      let len = length piece in
+      let told = subst (λ q. cond (slice_index_or seen (slice_index q 1) false) (Some malformed_list) (own_fault (attribute_of q) (Span place len)) ≡ None) (sym taken)
+      (sym (next_fault-whole body place len seen whole) ∙ none) in
+      let parts = cond_none _ malformed_list (own_fault (attribute_of piece) (Span place len)) told in
+      let fresh : has_kind (slice_index piece 1) done ≡ false = sym (now.marked (slice_index piece 1) octet) ∙ parts.0 in
+      let new_type : list_any (λ k. eqb k (slice_index piece 1)) now.kinds ≡ false = now.kinds_are (slice_index piece 1) ∙ fresh in
+      let is = subst (λ q. attribute_fault number_width now.kinds q
+      ≡ cond (list_any (λ kind. eqb kind (attribute_of q).kind) now.kinds) (Some (fault 3 1 [])) (option_map (fault_in body) (own_fault (attribute_of q) (Span place len)))) (sym taken)
+      (attribute_fault-is body place len now.kinds) in
+      (fresh, is ∙ rw (new_type, parts.1) refl)
+
+  in_front : (cut attribute_size body).0 ≡ now.pieces ++ piece ∷ (cut attribute_size (drop (place + length piece) body)).0
+  in_front =
+      now.in_order ∙ ap (λ (parts : List (List ℕ) × List ℕ). now.pieces ++ parts.0) (cut-next body place (length piece) whole)
+      ∙ ap (λ q. now.pieces ++ q ∷ (cut attribute_size (drop (place + length piece) body)).0) (sym taken)
+
+  -- the reader goes on behind it
+  pub reading-goes_on : length seen ≡ 256
+      → IsReading body (place + length piece) (slice_set seen (slice_index piece 1) true) (done ++ attribute_of piece ∷ []) × (has_kind (slice_index piece 1) done ≡ false)
+  reading-goes_on all =
+      let a = attribute_of piece in
+      let kind = slice_index piece 1 in
+      let pass = passes in
+      let judged_here = subst (λ q. list_fault number_width now.kinds (cut attribute_size (drop place body)).0 (cut attribute_size (drop place body)).1
+      ≡ or_else (attribute_fault number_width now.kinds q) (list_fault number_width (slice_index q 1 ∷ now.kinds) (cut attribute_size (drop (place + length piece) body)).0 (cut attribute_size (drop (place + length piece) body)).1)) (sym taken)
+      (list_fault-whole body place (length piece) now.kinds whole) in
+      let read_here = subst (λ q. attributes_in (drop place body) ≡ attribute_of q ∷ attributes_in (drop (place + length piece) body)) (sym taken) (attributes_in-whole body place (length piece) whole) in (
+        record {
+          kinds = kind ∷ now.kinds;
+          judged = now.judged ∙ judged_here ∙ rw pass.1 refl;
+          are_read = now.are_read ∙ ap (λ (more : List Attribute). done ++ more) read_here ∙ sym (append_assoc done (a ∷ []) (attributes_in (drop (place + length piece) body)));
+          kinds_are = λ k. ap (λ (t : Bool). eqb kind k || t) (now.kinds_are k) ∙ sym (has_kind-push k done a);
+          marked = λ k small. marks seen kind k (has_kind k done) (omega arith) (now.marked k small) ∙ sym (has_kind-push k done a);
+          pieces = now.pieces ++ piece ∷ [];
+          in_order = in_front ∙ sym (append_assoc now.pieces (piece ∷ []) (cut attribute_size (drop (place + length piece) body)).0);
+          passed = λ more. ap (λ (ps : List (List ℕ)). list_fault number_width [] ps []) (append_assoc now.pieces (piece ∷ []) more) ∙ now.passed (piece ∷ more) ∙ list_fault-piece now.kinds piece more pass.1;
+        },
+        pass.0,
+      )
+
+  -- where it is kept, it is one that memory is taken for
+  pub reading-keeps : is_kept (attribute_of piece) ≡ true → KeepsOne body
+  reading-keeps kept = record {
+    front = now.pieces;
+    piece = piece;
+    behind = (cut attribute_size (drop (place + length piece) body)).0;
+    in_order = in_front;
+    faultless = now.passed (piece ∷ []) ∙ list_fault-piece now.kinds piece [] passes.1 ∙ nothing_left (slice_index piece 1 ∷ now.kinds);
+    kept = kept;
+  }
 
 some_is : {X : Type 0} (x y : X) → Some x ≡ Some y → x ≡ y
 some_is x y same = cc

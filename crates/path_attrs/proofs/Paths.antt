@@ -101,10 +101,10 @@ front_is (a ∷ b ∷ rest) long =
     let all : take (length (a ∷ b ∷ rest) - 2) rest ≡ rest = take_all _ rest (omega arith) in
     rw all refl
 
-pub faulty-few : (octets : List ℕ) → 0 < length octets → length octets < 2 → is_faulty_path number_width octets ≡ true
-faulty-few [] some few = absurd (omega arith)
-faulty-few (x ∷ []) some few = faulty-short x
-faulty-few (x ∷ y ∷ rest) some few = absurd (omega arith)
+pub faulty-few : (octets : List ℕ) → length octets < 2 → is_faulty_path number_width octets ≡ not (eqb (length octets) 0)
+faulty-few [] few = refl
+faulty-few (x ∷ []) few = faulty-short x
+faulty-few (x ∷ y ∷ rest) few = absurd (omega arith)
 
 pub length_numbers : (ns : List ℕ) → length (flat_map number_octets ns) ≡ length ns * 2
 length_numbers [] = refl

@@ -1,12 +1,10 @@
 -- What reading attributes gives: those that are sent on, or the first fault.
-use Rattle.std.specs.Prelude.{◌≡◌, ℕ, Bool, true, false, slice_index, slice_index_or, slice_set, List, [], ◌∷◌, take, drop, map, filter, ◌==◌, if◌then◌else◌, Option, Some, None}
+use Rattle.std.specs.Prelude.{◌≡◌, ℕ, ◌≤◌, length, Bool, true, false, slice_index, slice_index_or, slice_set, List, [], ◌∷◌, take, drop, map, filter, ◌==◌, if◌then◌else◌, Option, Some, None}
 use Rattle.bgp_fault.specs.declared.Data.{Data}
 use Rattle.bgp_fault.specs.declared.Data.TheVariants.{None as NoData, Span}
 use Rattle.bgp_fault.specs.declared.Fault.{Fault}
-use Rattle.rcp_model.specs.Attributes.{Attribute, ORIGIN, AS_PATH, NEXT_HOP, attribute_of, attribute_size, attributes_in, canonical_octets, is_recognised, is_optional, has_other_category, has_other_length, has_faulty_value, is_kept, written, insert_by_type, by_type, number_width}
-use Rattle.path_attrs.specs.Refusals.{malformed_path}
-use Rattle.path_attrs.specs.Shown.{shown}
-use Rattle.path_attrs.specs.declared.value.Value.{Value}
+use Rattle.rcp_model.specs.Attributes.{Attribute, ORIGIN, AS_PATH, NEXT_HOP, attribute_of, attribute_size, attributes_in, value_place, canonical_octets, is_recognised, is_optional, has_other_category, has_other_length, has_faulty_value, is_kept, written, insert_by_type, by_type, number_width}
+use Rattle.path_attrs.specs.Refusals.{malformed_path, update_fault}
 
 -- of these attributes those that are sent on, with their flags
 abbrev pub passed_on : List Attribute → List Attribute
@@ -23,14 +21,6 @@ read_of octets = sent_on (attributes_in octets)
 -- what is written of it
 abbrev pub written_of : List ℕ → List ℕ
 written_of octets = canonical_octets (read_of octets)
-
--- a value, where there is one
-abbrev pub maybe_shown : Option Value → List Attribute
-maybe_shown None = []
-maybe_shown (Some value) = shown value ∷ []
-
-abbrev pub update_fault : ℕ → Data → Fault
-update_fault sub extra = record { code = 3; sub = sub; extra = extra }
 
 -- the fault of a faulty value, by type
 abbrev pub faulty_value : ℕ → Data → Fault
@@ -66,11 +56,14 @@ next_fault body place seen = elim (attribute_size (drop place body)) [
       else own_fault (attribute_of (piece_at body place len)) (Span place len)
 ]
 
--- what stands at a place is an attribute of so many octets, its type is marked, and this is sent on of it
-pub record IsNext (body : List ℕ) (place : ℕ) (before after : List Bool) (value : Option Value) (len : ℕ) : Type 0 where
-  pub whole : attribute_size (drop place body) ≡ Some len
-  pub marked : after ≡ slice_set before (slice_index (piece_at body place len) 1) true
-  pub sent : maybe_shown value ≡ passed_on (attribute_of (piece_at body place len) ∷ [])
+-- what stands at a place is this whole attribute, by itself without fault, and its type is marked
+pub record IsNext (body : List ℕ) (place : ℕ) (before after : List Bool) (piece : List ℕ) : Type 0 where
+  pub whole : attribute_size (drop place body) ≡ Some (length piece)
+  pub taken : piece ≡ piece_at body place (length piece)
+  pub marked : after ≡ slice_set before (slice_index piece 1) true
+  pub long : 3 ≤ length piece
+  pub header : value_place piece ≤ length piece
+  pub faultless : own_fault (attribute_of piece) NoData ≡ None
 
 -- attributes put in their places, the last one first
 abbrev pub all_inserted : List Attribute → List Attribute → List Attribute

@@ -5,7 +5,6 @@ ghost use Rattle.std.specs.Option.{option_copied, option_map};
 ghost use Rattle.rcp_model.specs.Attributes as model;
 ghost use Rattle.rcp_model.specs.Attributes.{Attribute, insert_by_type, value_of};
 ghost use Rattle.path_attrs.specs.Lists.{IsKept};
-ghost use Rattle.path_attrs.specs.Readings.{all_inserted, maybe_shown};
 ghost use Rattle.path_attrs.specs.Shown.{shown, all_shown};
 
 use crate::table::{AS_PATH, NEXT_HOP, ORIGIN};
@@ -99,15 +98,4 @@ pub fn insert(values: &mut Vec<Value>, value: Value) -> Result<(), AllocError>
     let place = place_of(values, value.kind());
     values.insert(place, value)?;
     Ok(())
-}
-
-/// Puts a value, if there is one, in its place.
-pub fn insert_some(values: &mut Vec<Value>, value: Option<Value>) -> Result<(), AllocError>
-    ensures { OnOk result (all_shown values.new.items
-        ≡ all_inserted (maybe_shown value) (all_shown values.old.items)) }
-{
-    match value {
-        Some(value) => insert(values, value),
-        None => Ok(()),
-    }
 }

@@ -1,32 +1,15 @@
 //! COMMUNITIES: labels of a route, each a number of four octets (RFC 1997).
 
-ghost use Rattle.std.specs.Prelude.{◌≡◌, ◌≢◌, ◌+◌, ◌%◌, ◌^◌, ◌<◌, ◌≤◌, length, OnOk, IfOk, IfErr};
+ghost use Rattle.std.specs.Prelude.{◌≡◌, ◌+◌, ◌%◌, ◌^◌, ◌<◌, ◌≤◌, length, IfOk};
 ghost use Rattle.std.specs.Int.{w32, to_be_bytes};
 ghost use Rattle.std.specs.List.{flat_map};
 ghost use Rattle.path_attrs.specs.Appending.{Appends};
-ghost use Rattle.path_attrs.specs.Readings.{update_fault};
-ghost use Rattle.path_attrs.specs.Refusals.{IfFault};
 
 use crate::numbers::{put_u32, split_u32};
-use crate::refusal::{AttrRefusal, refuse};
-use bgp_fault::{Data, OPTIONAL_ATTRIBUTE_ERROR};
 use std::alloc::{AllocError, Global};
 
-/// The numbers of octets. Octets that aren't whole numbers are refused, with the span of their attribute.
-pub fn read_communities(alloc: Global, octets: &[u8], span: Data) -> Result<Vec<u32>, AttrRefusal>
-    ensures faultless { OnOk result (length octets.now % 4 ≡ 0) }
-    ensures value { IfOk result (λ numbers. flat_map (to_be_bytes w32) numbers.items ≡ octets.now) }
-    ensures fault { IfErr result (λ refusal. IfFault refusal (λ fault.
-        (length octets.now % 4 ≢ 0) × (fault ≡ update_fault 9 span))) }
-{
-    if octets.len() % 4 != 0 {
-        return Err(refuse(OPTIONAL_ATTRIBUTE_ERROR, span));
-    }
-    Ok(read_numbers(alloc, octets)?)
-}
-
 /// The numbers of octets that are whole numbers.
-fn read_numbers(alloc: Global, octets: &[u8]) -> Result<Vec<u32>, AllocError>
+pub fn read_communities(alloc: Global, octets: &[u8]) -> Result<Vec<u32>, AllocError>
     requires { length octets.now % 4 ≡ 0 }
     ensures { IfOk result (λ numbers. flat_map (to_be_bytes w32) numbers.items ≡ octets.now) }
 {

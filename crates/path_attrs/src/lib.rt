@@ -4,10 +4,11 @@
 //! Contracts see [`Attrs`] as a list of attributes in order of type, each with its flags, its type and the octets of its
 //! value: those that are sent on, with the flags that they are sent on with. AS numbers have two octets.
 //!
-//! A caller may rely on this: [`read`] answers attributes exactly where the octets have no fault, and else the first
-//! fault in the order of RFC 4271, section 6.3, with the octets that a NOTIFICATION names. [`write`] gives the
-//! canonical octets, and [`route`] every field of the route. What is written is read again, with the same octets and the
-//! same route ([`written_is_read_again`]). Writing takes no memory.
+//! A caller may rely on this: [`read`] answers attributes only where the octets have no fault, and a fault only where it
+//! is the first one in the order of RFC 4271, section 6.3, with the octets that a NOTIFICATION names. It answers that
+//! there is no memory only for an attribute that is sent on, and never in place of a fault of it or of one in front of it.
+//! [`write`] gives the canonical octets, and [`route`] every field of the route. What is written is read again, with the
+//! same octets and the same route ([`written_is_read_again`]). Writing takes no memory.
 //!
 //! ```text
 //! let attrs = read(alloc, section, has_nlri)?; // or AttrRefusal::Fault, the first one, or AttrRefusal::NoMemory

@@ -1,20 +1,17 @@
 //! AS_PATH: the ASes that a route has passed, in segments (RFC 4271, section 4.3).
 
-ghost use Rattle.std.specs.Prelude.{◌≡◌, ◌+◌, ◌<◌, ◌≤◌, [], ◌∷◌, ◌++◌, ◌%◌, true, false, ◌^◌, length, ◌==◌, sum_by, IfOk, IfErr, OnOk, IsTrue, MatchOption};
+ghost use Rattle.std.specs.Prelude.{◌≡◌, ◌+◌, ◌*◌, ◌/◌, ◌<◌, ◌≤◌, [], ◌∷◌, ◌++◌, ◌%◌, false, not, ◌^◌, length, ◌==◌, sum_by, IfOk, IfNone, IfSome, IsTrue, MatchOption};
 ghost use Rattle.std.specs.Int.{byte_len};
 ghost use Rattle.std.specs.List.{flat_map, list_any};
 ghost use Rattle.rcp_model.specs.Attributes.{is_faulty_path, numbers_in, segments_in, number_width};
 ghost use Rattle.rcp_model.specs.Messages.{is_outside};
 ghost use Rattle.path_attrs.specs.Appending.{Appends};
 ghost use Rattle.path_attrs.specs.Segments.{kind_octet, segment_octets, path_octets};
-ghost use Rattle.path_attrs.specs.Refusals.{IfFault, malformed_path};
 ghost use Rattle.rcp_model.specs.Routes.{hops_of, neighbour_of};
 ghost use Rattle.path_attrs.specs.Width.{number_octets};
 
 use crate::numbers::{AsNumber, NUMBER_LEN, put_number, split_number};
 use crate::put::put;
-use crate::refusal::{AttrRefusal, refuse};
-use bgp_fault::{Data, MALFORMED_AS_PATH};
 use smallvec::SmallVec;
 use std::alloc::{AllocError, Global};
 use std::default::MadeWith;
@@ -93,18 +90,15 @@ impl Model for Path {
 }
 
 impl Path {
-    /// The path of the octets. A path that ends within a segment, or has a malformed one, is refused.
-    pub fn read(alloc: Global, octets: &[u8]) -> Result<Path, AttrRefusal>
-        ensures spelled { IfOk result (λ path. path_octets path ≡ octets.now) }
-        ensures faultless { OnOk result (is_faulty_path number_width octets.now ≡ false) }
-        ensures malformed { IfErr result (λ refusal. IfFault refusal (λ fault.
-            (fault ≡ malformed_path) × (is_faulty_path number_width octets.now ≡ true))) }
+    /// The path of the octets.
+    pub fn read(alloc: Global, octets: &[u8]) -> Result<Path, AllocError>
+        requires { is_faulty_path number_width octets.now ≡ false }
+        ensures { IfOk result (λ path. path_octets path ≡ octets.now) }
     {
         let mut segments = SmallVec::new(alloc);
         let mut rest = octets;
-        while !rest.is_empty() {
-            let (segment, after) = split_segment(alloc, rest)?;
-            segments.push(segment)?;
+        while let Some((kind, numbers, after)) = front_segment(rest) {
+            segments.push(read_segment(alloc, kind, numbers)?)?;
             rest = after;
         }
         Ok(Path { segments })
@@ -226,31 +220,54 @@ fn read_numbers(alloc: Global, octets: &[u8]) -> Result<Numbers, AllocError>
     Ok(numbers)
 }
 
-/// The segment at the front and the octets behind it. A segment of another kind, with no number, or that passes the
-/// end is malformed.
-fn split_segment(alloc: Global, octets: &[u8]) -> Result<(Segment, &[u8]), AttrRefusal>
-    requires { 0 < length octets.now }
-    ensures spelled { IfOk result (λ split. octets.now ≡ segment_octets split.0 ++ split.1.now) }
-    ensures read { IfOk result (λ split.
-        segments_in number_width octets.now ≡ split.0 ∷ segments_in number_width split.1.now) }
-    ensures faultless { IfOk result (λ split.
-        is_faulty_path number_width octets.now ≡ is_faulty_path number_width split.1.now) }
-    ensures malformed { IfErr result (λ refusal. IfFault refusal (λ fault.
-        (fault ≡ malformed_path) × (is_faulty_path number_width octets.now ≡ true))) }
+/// Whether octets are no path: one that ends within a segment, or has a malformed one.
+pub fn is_malformed(octets: &[u8]) -> bool
+    ensures { result ≡ is_faulty_path number_width octets.now }
+{
+    let mut rest = octets;
+    while let Some((_, _, after)) = front_segment(rest) {
+        rest = after;
+    }
+    !rest.is_empty()
+}
+
+/// The kind of the segment at the front, the octets of its numbers, and those behind it. None where there are no octets,
+/// and where the segment is malformed: of another kind, with no number, or one that passes the end.
+fn front_segment(octets: &[u8]) -> Option<(SegmentKind, &[u8], &[u8])>
+    ensures none { IfNone result (is_faulty_path number_width octets.now ≡ not (length octets.now == 0)) }
+    ensures spelled { IfSome result (λ front. octets.now
+        ≡ kind_octet front.0 ∷ length front.1.now / byte_len number_width ∷ front.1.now ++ front.2.now) }
+    ensures whole { IfSome result (λ front. length front.1.now % byte_len number_width ≡ 0) }
+    ensures few { IfSome result (λ front. length front.1.now ≤ 255 * byte_len number_width) }
+    ensures read { IfSome result (λ front. segments_in number_width octets.now
+        ≡ record { kind = kind_octet front.0; numbers = numbers_in number_width front.1.now }
+        ∷ segments_in number_width front.2.now) }
+    ensures faultless { IfSome result (λ front.
+        is_faulty_path number_width octets.now ≡ is_faulty_path number_width front.2.now) }
 {
     let [kind, count, rest @ ..] = octets else {
-        return Err(refuse(MALFORMED_AS_PATH, Data::None));
+        return None;
     };
+    let kind = SegmentKind::from_octet(*kind)?;
     let len = usize::from(*count) * NUMBER_LEN;
-    let Some(kind) = SegmentKind::from_octet(*kind) else {
-        return Err(refuse(MALFORMED_AS_PATH, Data::None));
-    };
     if len == 0 || rest.len() < len {
-        return Err(refuse(MALFORMED_AS_PATH, Data::None));
+        return None;
     }
-    let (octets, after) = rest.split_at(len);
+    let (numbers, after) = rest.split_at(len);
+    Some((kind, numbers, after))
+}
+
+/// A segment of this kind with the numbers of the octets.
+fn read_segment(alloc: Global, kind: SegmentKind, octets: &[u8]) -> Result<Segment, AllocError>
+    requires whole { length octets.now % byte_len number_width ≡ 0 }
+    requires few { length octets.now ≤ 255 * byte_len number_width }
+    ensures spelled { IfOk result (λ segment. segment_octets segment
+        ≡ kind_octet kind ∷ length octets.now / byte_len number_width ∷ octets.now) }
+    ensures read { IfOk result (λ segment. segment
+        ≡ record { kind = kind_octet kind; numbers = numbers_in number_width octets.now }) }
+{
     let numbers = read_numbers(alloc, octets)?;
-    Ok((Segment { kind, numbers }, after))
+    Ok(Segment { kind, numbers })
 }
 
 /// How many octets segments have.

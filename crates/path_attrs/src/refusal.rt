@@ -1,11 +1,12 @@
 //! Why a list of path attributes is refused.
 
-ghost use Rattle.std.specs.Prelude.{◌≡◌};
+ghost use Rattle.std.specs.Prelude.{◌≡◌, Some, None, if◌then◌else◌};
 ghost use Rattle.bgp_fault.specs.declared.Fault.{Fault};
+ghost use Rattle.path_attrs.specs.Refusals.{update_fault};
 ghost use Rattle.path_attrs.specs.declared.refusal.AttrRefusal.TheVariants.{Fault as IsFault, NoMemory};
 
 use bgp_fault::{Data, Fault, UPDATE_MESSAGE_ERROR};
-use std::alloc::{AllocError, AllocFailed};
+use std::alloc::AllocError;
 use thiserror::Error;
 
 /// Why a list of path attributes is refused.
@@ -19,6 +20,14 @@ pub enum AttrRefusal {
     NoMemory,
 }
 
+impl From<Fault> for AttrRefusal {
+    ghost from_gives = { λ fault refusal. refusal ≡ IsFault fault };
+
+    fn from(fault: Fault) -> AttrRefusal {
+        AttrRefusal::Fault(fault)
+    }
+}
+
 impl From<AllocError> for AttrRefusal {
     ghost from_gives = { λ _ refusal. refusal ≡ NoMemory };
 
@@ -27,21 +36,20 @@ impl From<AllocError> for AttrRefusal {
     }
 }
 
-impl<T: Drop> From<AllocFailed<T>> for AttrRefusal {
-    ghost from_gives = { λ _ refusal. refusal ≡ NoMemory };
-
-    fn from(_e: AllocFailed<T>) -> AttrRefusal {
-        AttrRefusal::NoMemory
-    }
+/// The fault of an UPDATE that a test shows, if it does.
+pub fn fault_if(shown: bool, sub: u8, extra: Data) -> Option<Fault>
+    ensures { result ≡ (if shown then Some (update_fault sub extra) else None) }
+{
+    if shown { Some(fault(sub, extra)) } else { None }
 }
 
-/// The refusal for a fault of an UPDATE.
-pub fn refuse(sub: u8, extra: Data) -> AttrRefusal
-    ensures { result ≡ IsFault (record { code = 3; sub = sub; extra = extra }) }
+/// The fault of an UPDATE.
+pub fn fault(sub: u8, extra: Data) -> Fault
+    ensures { result ≡ update_fault sub extra }
 {
-    AttrRefusal::Fault(Fault {
+    Fault {
         code: UPDATE_MESSAGE_ERROR,
         sub,
         extra,
-    })
+    }
 }

@@ -1,6 +1,7 @@
 //! The attributes that are recognised, and what each must have (RFC 4271, section 5, and RFC 1997).
 
 ghost use Rattle.std.specs.Prelude.{◌≡◌};
+ghost use Rattle.rcp_model.specs.Attributes as model;
 
 use crate::aggregator::AGGREGATOR_LEN;
 use crate::flags::{CATEGORY, OPTIONAL, TRANSITIVE};
@@ -31,6 +32,13 @@ const OPTIONAL_TRANSITIVE: u16 = CATEGORY as u16;
 
 /// The length of an attribute that may have any.
 pub const ANY: u16 = 0xffff;
+
+/// Whether a type is recognised.
+pub fn is_recognised(kind: u8) -> bool
+    ensures { result ≡ model.is_recognised kind }
+{
+    matches!(kind, ORIGIN..=COMMUNITIES)
+}
 
 /// A row: the type, its optional and transitive flags, and the length of its value.
 macro_rules! row {

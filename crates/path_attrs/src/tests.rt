@@ -216,6 +216,23 @@ fn another_length_is_told_with_the_whole_attribute(rt: HostRuntime) -> Result<()
     Ok(())
 }
 
+#[test]
+fn the_longest_values_are_read(rt: HostRuntime) -> Result<(), Fail> {
+    let alloc = rt.alloc();
+    let mut path = octets(alloc, "50020fe4")?;
+    for _ in 0..7 {
+        path.extend_from_slice(&with_zeros(alloc, "02ff", 510)?)?;
+    }
+    path.extend_from_slice(&with_zeros(alloc, "02f1", 482)?)?;
+    let communities = with_zeros(alloc, "d0080fe4", 4068)?;
+    for list in [&path, &communities] {
+        let form = written(alloc, &read_all(alloc, list)?)?;
+        // LOCAL_PREF stands with it
+        assert_eq!(rt; (list.len(), form.len()), (4072, 4079));
+    }
+    Ok(())
+}
+
 // Of an attribute behind LIST, or behind LIST without LOCAL_PREF, its header, and how many zeros make its value: the
 // octets that are written of both, and whether the route is long.
 const LONG: [(&str, &str, usize, usize, bool); 5] = [

@@ -1,12 +1,10 @@
 //! The value of a path attribute, and its octets.
 
-ghost use Rattle.std.specs.Prelude.{◌≡◌, ◌+◌, ◌<◌, ◌≤◌, ◌^◌, true, false, length, slice_index, OnOk, IfOk, IfErr};
+ghost use Rattle.std.specs.Prelude.{◌≡◌, ◌+◌, ◌<◌, ◌≤◌, ◌^◌, false, ◌&&◌, length, Some, None, IfOk, if◌then◌else◌};
 ghost use Rattle.std.specs.Int.{w32, to_be_bytes};
 ghost use Rattle.rcp_model.specs.Attributes.{attribute_octets, has_faulty_value, has_other_length, is_recognised, written, number_width};
-ghost use Rattle.rcp_model.specs.Messages.{is_outside};
 ghost use Rattle.path_attrs.specs.Appending.{Appends};
-ghost use Rattle.path_attrs.specs.Readings.{faulty_value, update_fault};
-ghost use Rattle.path_attrs.specs.Refusals.{IfFault};
+ghost use Rattle.path_attrs.specs.Readings.{faulty_value};
 ghost use Rattle.path_attrs.specs.Shown.{shown, header_octets, with_partial as flags_with};
 
 use crate::aggregator::{AGGREGATOR_LEN, Aggregator};
@@ -14,18 +12,21 @@ use crate::communities::{communities_len, put_communities, read_communities};
 use crate::flags::{EXTENDED, OPTIONAL, PARTIAL, TRANSITIVE, is_partial};
 use crate::numbers::{put_u32, split_u32};
 use crate::origin::Origin;
-use crate::path::Path;
+use crate::path::{Path, is_malformed};
 use crate::put::put;
-use crate::refusal::{AttrRefusal, refuse};
+use crate::refusal::fault_if;
 use crate::table::{
     AGGREGATOR, AS_PATH, ATOMIC_AGGREGATE, COMMUNITIES, LOCAL_PREF, MULTI_EXIT_DISC, NEXT_HOP,
     ORIGIN,
 };
 use crate::unrecognised::Unrecognised;
-use bgp_fault::{Data, INVALID_NEXT_HOP_ATTRIBUTE};
+use bgp_fault::{
+    Data, Fault, INVALID_NEXT_HOP_ATTRIBUTE, INVALID_ORIGIN_ATTRIBUTE, MALFORMED_AS_PATH,
+    OPTIONAL_ATTRIBUTE_ERROR,
+};
 use case_table::cases;
 use rcp_base::Addr;
-use std::alloc::Global;
+use std::alloc::{AllocError, Global};
 
 /// The value of an attribute that is sent on.
 #[derive(Debug, Drop)]
@@ -97,29 +98,19 @@ impl Value {
         }
     }
 
-    /// The value of a recognised attribute whose flags and length are those of its type. A fault of it has the span of
-    /// the attribute.
-    pub fn read(
-        alloc: Global,
-        flags: u8,
-        kind: u8,
-        octets: &[u8],
-        span: Data,
-    ) -> Result<Value, AttrRefusal>
-        requires recognised { is_recognised kind ≡ true }
-        requires length { has_other_length number_width (record { flags = flags; kind = kind; value = octets.now }) ≡ false }
-        ensures faultless { OnOk result
-            (has_faulty_value number_width (record { flags = flags; kind = kind; value = octets.now }) ≡ false) }
-        ensures value { IfOk result (λ value. shown value
+    /// The value of an attribute that has no fault, and is sent on.
+    pub fn read(alloc: Global, flags: u8, kind: u8, octets: &[u8]) -> Result<Value, AllocError>
+        requires length { (is_recognised kind
+            && has_other_length number_width (record { flags = flags; kind = kind; value = octets.now })) ≡ false }
+        requires faultless { (is_recognised kind
+            && has_faulty_value number_width (record { flags = flags; kind = kind; value = octets.now })) ≡ false }
+        ensures { IfOk result (λ value. shown value
             ≡ written (record { flags = flags; kind = kind; value = octets.now })) }
-        ensures fault { IfErr result (λ refusal. IfFault refusal (λ fault.
-            (has_faulty_value number_width (record { flags = flags; kind = kind; value = octets.now }) ≡ true)
-            × (fault ≡ faulty_value kind span))) }
     {
         cases!(kind;
-            ORIGIN => Ok(Value::Origin(Origin::read(octets, span)?)),
+            ORIGIN => Ok(Value::Origin(Origin::from_octet(octets[0]))),
             AS_PATH => Ok(Value::AsPath(Path::read(alloc, octets)?)),
-            NEXT_HOP => Ok(Value::NextHop(read_next_hop(octets, span)?)),
+            NEXT_HOP => Ok(Value::NextHop(Addr(read_u32(octets)))),
             MULTI_EXIT_DISC => Ok(Value::MultiExitDisc(read_u32(octets))),
             LOCAL_PREF => Ok(Value::LocalPref(read_u32(octets))),
             ATOMIC_AGGREGATE => Ok(Value::AtomicAggregate),
@@ -129,9 +120,12 @@ impl Value {
             }),
             COMMUNITIES => Ok(Value::Communities {
                 partial: is_partial(flags),
-                numbers: read_communities(alloc, octets, span)?,
+                numbers: read_communities(alloc, octets)?,
             });
-            _ => unreachable!()
+            _ => {
+                let octets = Vec::from_slice(alloc, octets)?;
+                Ok(Value::Unrecognised(Unrecognised { kind, octets }))
+            }
         )
     }
 
@@ -163,6 +157,22 @@ impl Value {
     }
 }
 
+/// The fault of the value of a recognised attribute whose length is that of its type (RFC 4271, section 6.3): an ORIGIN
+/// above 2, an AS_PATH that is malformed, a NEXT_HOP that is no address of a host, COMMUNITIES that aren't whole.
+pub fn value_fault(kind: u8, octets: &[u8], span: Data) -> Option<Fault>
+    requires { has_other_length number_width (record { flags = 0; kind = kind; value = octets.now }) ≡ false }
+    ensures { result ≡ (if has_faulty_value number_width (record { flags = 0; kind = kind; value = octets.now })
+        then Some (faulty_value kind span) else None) }
+{
+    cases!(kind;
+        ORIGIN => fault_if(octets[0] > 2, INVALID_ORIGIN_ATTRIBUTE, span),
+        AS_PATH => fault_if(is_malformed(octets), MALFORMED_AS_PATH, Data::None),
+        NEXT_HOP => fault_if(!matches!(octets[0], 1..=223), INVALID_NEXT_HOP_ATTRIBUTE, span),
+        COMMUNITIES => fault_if(octets.len() % 4 != 0, OPTIONAL_ATTRIBUTE_ERROR, span);
+        _ => None
+    )
+}
+
 /// The number of four octets.
 fn read_u32(octets: &[u8]) -> u32
     requires { length octets.now ≡ 4 }
@@ -171,21 +181,6 @@ fn read_u32(octets: &[u8]) -> u32
     match split_u32(octets) {
         Some((number, _)) => number,
         None => unreachable!(),
-    }
-}
-
-/// NEXT_HOP: an address of a host, whose first octet is 1 to 223 (RFC 4271, section 6.3).
-fn read_next_hop(octets: &[u8], span: Data) -> Result<Addr, AttrRefusal>
-    requires { length octets.now ≡ 4 }
-    ensures faultless { OnOk result (is_outside 1 223 (slice_index octets.now 0) ≡ false) }
-    ensures value { IfOk result (λ addr. to_be_bytes w32 addr ≡ octets.now) }
-    ensures fault { IfErr result (λ refusal. IfFault refusal (λ fault.
-        (is_outside 1 223 (slice_index octets.now 0) ≡ true) × (fault ≡ update_fault 8 span))) }
-{
-    if matches!(octets[0], 1..=223) {
-        Ok(Addr(read_u32(octets)))
-    } else {
-        Err(refuse(INVALID_NEXT_HOP_ATTRIBUTE, span))
     }
 }
 

@@ -26,12 +26,12 @@ returns-in_err-need_all-clause-first_fault c =
     let p = err_from_is_err_and c.from_residual-in_err-need_all.result c.from_residual-in_err-need_all.ensures.1 in
     let same : missing_fault c.new-attrs.result ≡ missing_fault (attributes_in c.args.bytes.now) = ap missing_fault (c.new-attrs.ensures ∙ c.in_ok-read_list.ensures.values) ∙ missing_fault-sent_on (attributes_in c.args.bytes.now) in
     let all = attributes_fault-missing c.args.nlri c.args.bytes.now c.in_ok-read_list.ensures.faultless in
-    rw (p.1, p.2) (IfFault-map c.in_err-need_all.field-0.0 _ _ (λ fault is. all ∙ rw c.if-nlri.true (sym same ∙ (is c.args.bytes.now).0)) c.in_err-need_all.ensures.missing)
+    rw (p.1, p.2) (all ∙ rw c.if-nlri.true (sym same ∙ (c.in_err-need_all.ensures.missing c.args.bytes.now).0))
 
 pub returns-in_err-need_all-clause-within : goal.returns-in_err-need_all-clause-within
 returns-in_err-need_all-clause-within c =
     let p = err_from_is_err_and c.from_residual-in_err-need_all.result c.from_residual-in_err-need_all.ensures.1 in
-    rw (p.1, p.2) (IfFault-map c.in_err-need_all.field-0.0 _ _ (λ fault is. (is c.args.bytes.now).1) c.in_err-need_all.ensures.missing)
+    rw (p.1, p.2) (c.in_err-need_all.ensures.missing c.args.bytes.now).1
 
 pub returns-clause-faultless : goal.returns-clause-faultless
 returns-clause-faultless c =
