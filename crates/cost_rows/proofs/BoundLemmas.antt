@@ -10,10 +10,10 @@ use Rattle.rcp_base.specs.declared.names.Edge.{Edge}
 use Rattle.rcp_model.specs.Costs.{Walk, stay, step, IsCost, cost}
 use Rattle.rcp_model.specs.Graphs.{IsGraph, routers_in}
 
-walk_of : (edges : List Edge) (u v n : ℕ) → cost edges u v ≡ Some n → Walk edges u v n
+pub walk_of : (edges : List Edge) (u v n : ℕ) → cost edges u v ≡ Some n → Walk edges u v n
 walk_of edges u v n is = (subst (IsCost edges u v) is (cost_is edges u v)).0
 
-least_of_walk : (edges : List Edge) (u v sum : ℕ) → Walk edges u v sum → (n : ℕ) × (cost edges u v ≡ Some n) × (n ≤ sum)
+pub least_of_walk : (edges : List Edge) (u v sum : ℕ) → Walk edges u v sum → (n : ℕ) × (cost edges u v ≡ Some n) × (n ≤ sum)
 least_of_walk edges u v sum walk = at_cost (cost edges u v) refl (cost_is edges u v) where
   at_cost : (o : Option ℕ) → cost edges u v ≡ o → IsCost edges u v o → (n : ℕ) × (cost edges u v ≡ Some n) × (n ≤ sum)
   at_cost None is none = absurd (none sum walk)

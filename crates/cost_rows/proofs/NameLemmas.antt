@@ -40,10 +40,10 @@ name_found names name r position rising member = of_search r (searched names nam
 pub apart : (names : List ℕ) → IsStrictlyIncreasing names → AllPairs (λ a b. a ≢ b) names
 apart names rising i j d less within same = let h = AllPairs-from_increasing names rising i j d less within in omega (arith, h, same)
 
-apart-tail : (name : ℕ) (names : List ℕ) → AllPairs (λ a b. a ≢ b) (name ∷ names) → AllPairs (λ a b. a ≢ b) names
+pub apart-tail : (name : ℕ) (names : List ℕ) → AllPairs (λ a b. a ≢ b) (name ∷ names) → AllPairs (λ a b. a ≢ b) names
 apart-tail name names apart i j d less within = apart (suc i) (suc j) d (omega arith) (omega arith)
 
-apart-head : (name : ℕ) (names : List ℕ) → AllPairs (λ a b. a ≢ b) (name ∷ names) → Contains names name → ⊥
+pub apart-head : (name : ℕ) (names : List ℕ) → AllPairs (λ a b. a ≢ b) (name ∷ names) → Contains names name → ⊥
 apart-head name names apart member = apart 0 (suc member.0) name (omega arith) (omega arith) (sym member.2)
 
 pub found-unnamed : (names : List ℕ) (least : List (Option ℕ)) (v : ℕ) → (Contains names v → ⊥) → found_at names least v ≡ None

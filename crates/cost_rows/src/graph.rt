@@ -60,12 +60,14 @@ impl Graph {
     /// Puts an edge in, unless it is there already. The edge costs at most 65,535, and the graph has at most 2,560
     /// routers afterwards.
     ///
-    /// `NoMemory` comes where there was no room for it, and the graph stays as it was. The edges behind it are moved.
+    /// `NoMemory` comes only where the edge wasn't there and there was no room for it, and the graph stays as it was. The edges
+    /// after it are moved.
     pub fn add(&mut self, edge: Edge) -> Result<(), NoMemory>
         requires few { length (routers_in (include_edge edge self.old)) ≤ most_graph_routers }
         requires cheap { edge.cost ≤ highest_cost }
         ensures ok { OnOk result (self.new ≡ include_edge edge self.old) }
         ensures err { OnErr result (self.new ≡ self.old) }
+        ensures absent { OnErr result (¬ (Contains self.old edge)) }
     {
         include(&mut self.edges, edge)
     }
@@ -116,6 +118,7 @@ fn include(edges: &mut Vec<Edge>, edge: Edge) -> Result<(), NoMemory>
     requires { AllPairs (λ a b. IsTrue (is_edge_before a b)) edges.old.items }
     ensures ok { OnOk result (edges.new.items ≡ include_edge edge edges.old.items) }
     ensures err { OnErr result (edges.new.items ≡ edges.old.items) }
+    ensures absent { OnErr result (¬ (Contains edges.old.items edge)) }
 {
     let Err(place) = find(edges.as_slice(), &edge) else {
         return Ok(());

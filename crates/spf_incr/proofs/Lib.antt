@@ -1,0 +1,5 @@
+pub mod EdgeLemmas
+pub mod FollowLemmas
+pub mod PairLemmas
+pub mod RowLemmas
+pub mod TableLemmas
