@@ -12,6 +12,15 @@ fault_rows =
     ∷ (3, 1) ∷ (3, 2) ∷ (3, 3) ∷ (3, 4) ∷ (3, 5) ∷ (3, 6) ∷ (3, 8) ∷ (3, 9) ∷ (3, 10) ∷ (3, 11)
     ∷ (4, 0) ∷ (5, 0) ∷ (6, 0) ∷ []
 
+-- The fewest and the most octets of data of each, in that order: a length field or a version has 2, a type 1, and an attribute 3 at
+-- least and 4,073 at most, which is what an UPDATE of 4,096 octets has room for.
+abbrev pub fault_sizes : List (ℕ × ℕ)
+fault_sizes =
+    (0, 0) ∷ (2, 2) ∷ (1, 1)
+    ∷ (0, 0) ∷ (2, 2) ∷ (0, 0) ∷ (0, 0) ∷ (0, 0) ∷ (0, 0)
+    ∷ (0, 0) ∷ (3, 4073) ∷ (1, 1) ∷ (3, 4073) ∷ (3, 4073) ∷ (3, 4073) ∷ (3, 4073) ∷ (3, 4073) ∷ (0, 0) ∷ (0, 0)
+    ∷ (0, 0) ∷ (0, 0) ∷ (0, 0) ∷ []
+
 -- the octets that the data of a fault is, a span naming octets of `body`
 abbrev pub data_octets : List ℕ → Data → List ℕ
 data_octets body extra.None = []

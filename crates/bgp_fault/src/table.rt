@@ -1,7 +1,7 @@
 //! The table of the faults, and which are in it.
 
-ghost use Rattle.std.specs.Prelude.{◌≡◌, ◌↔◌, Contains, IsTrue};
-ghost use Rattle.bgp_fault.specs.Faults.{fault_rows};
+ghost use Rattle.std.specs.Prelude.{◌≡◌, ◌↔◌, Contains, IsTrue, map};
+ghost use Rattle.bgp_fault.specs.Faults.{fault_rows, fault_sizes};
 
 use crate::codes::*;
 use case_table::{Row, Table};
@@ -81,7 +81,8 @@ pub const ROWS: [Row; 22] = [
 /// The faults as a table: a row's code is the number that error code and subcode are as two octets, and its numbers
 /// are the least and the most octets of data.
 pub fn rows() -> Table<22>
-    ensures { result ≡ ROWS }
+    ensures table { result ≡ ROWS }
+    ensures sizes { map (λ row. (row.first, row.second)) result ≡ fault_sizes }
 {
     Table::new(ROWS)
 }

@@ -1,5 +1,5 @@
 -- The crate's types, as the definitions see them.
-use Rattle.std.specs.Prelude.{map}
+use Rattle.std.specs.Prelude.{ℕ, map}
 use Rattle.std.specs.Option.{option_map}
 use Rattle.rcp_model.specs.Sessions.{Reason, Faulted, Received, Ended, SeatTaken, Ending, ending, SessionEvent, Up, Announce, Withdraw, Doing, Negotiated, Peering, Phase, OpenSent, Claiming, OpenConfirm, Established, Closed}
 use Rattle.session_core.specs.declared.actions.Why.{Why}
@@ -18,6 +18,13 @@ reason_of why.Fault = Faulted
 reason_of why.Received = Received
 reason_of why.End = Ended
 reason_of why.SeatOut = SeatTaken
+
+-- the number that an output record has for it
+abbrev pub number_of : Why → ℕ
+number_of why.Fault = 1
+number_of why.Received = 2
+number_of why.End = 3
+number_of why.SeatOut = 4
 
 abbrev pub ending_of : ClosedBy → Ending
 ending_of closed = ending (reason_of closed.why) closed.code closed.sub

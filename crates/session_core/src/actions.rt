@@ -1,6 +1,6 @@
 //! What a session does.
 
-ghost use Rattle.std.specs.Prelude.{◌≤◌, All, length};
+ghost use Rattle.std.specs.Prelude.{◌≡◌, ◌≤◌, All, length};
 
 use rcp_base::{Prefix, Slot};
 use rcp_model::Route;
@@ -17,6 +17,17 @@ pub enum Why {
     End = 3,
     /// The seat of the router was taken: a NOTIFICATION told it.
     SeatOut = 4,
+}
+
+impl Why {
+    ghost use Rattle.session_core.specs.Shown.{number_of};
+
+    /// The number of a reason: 1 to 4.
+    pub fn number(self) -> u8
+        ensures { result ≡ number_of self }
+    {
+        self as u8
+    }
 }
 
 /// The end of a session.
@@ -55,7 +66,6 @@ pub struct Actions {
 }
 
 impl Actions {
-    ghost use Rattle.std.specs.Prelude.{◌≡◌};
     ghost use Rattle.rcp_model.specs.Sessions.{nothing};
     ghost use Rattle.session_core.specs.Shown.{doing_of};
 

@@ -11,7 +11,7 @@ ghost use Rattle.session_core.specs.Steps.{Takes};
 
 use crate::actions::{Actions, Closed, Why};
 use crate::events::{tell_changes, tell_up};
-use crate::opening::read_offer;
+use crate::opening::read_peer_open;
 use crate::sending::close_by;
 use crate::state::{Claim, Negotiated, Peering, State};
 use crate::table::{ESTABLISHED, OPEN_CONFIRM, OPEN_SENT, Rule, find_rule};
@@ -61,7 +61,7 @@ pub fn handle(
     }
 }
 
-/// In OpenSent an OPEN is taken.
+/// In OpenSent an OPEN is taken (event 19, BGPOpen; event 22, BGPOpenMsgErr, where it has a fault).
 fn in_open_sent(
     alloc: Global,
     roster: &Roster,
@@ -81,7 +81,7 @@ fn in_open_sent(
     }
 }
 
-/// In OpenConfirm a KEEPALIVE is taken: the session is up.
+/// In OpenConfirm a KEEPALIVE is taken (event 26, KeepAliveMsg): the session is up.
 fn in_open_confirm(
     alloc: Global,
     peering: Peering,
@@ -102,7 +102,8 @@ fn in_open_confirm(
     }
 }
 
-/// In Established UPDATEs and KEEPALIVEs are taken.
+/// In Established UPDATEs are taken (event 27, UpdateMsg; event 28, UpdateMsgErr, where one has a fault), and KEEPALIVEs
+/// (event 26, KeepAliveMsg).
 fn in_established(
     alloc: Global,
     roster: &Roster,
@@ -123,7 +124,7 @@ fn in_established(
     }
 }
 
-/// A NOTIFICATION closes the session.
+/// A NOTIFICATION closes the session, whatever it says (events 24, NotifMsgVerErr, and 25, NotifMsg).
 fn obey(body: &[u8], actions: &mut Actions) -> State
     requires { 2 ≤ length body.now }
     ensures { Takes (notified body.now) actions.old result actions.new }
@@ -148,14 +149,14 @@ fn open_received(
     requires { 10 ≤ length body.now }
     ensures { IfOk result (λ next. Takes (opened roster.now since body.now) actions.old next actions.new) }
 {
-    match read_offer(roster, body) {
-        Ok(offer) => {
-            actions.claim = Some(offer.slot);
+    match read_peer_open(roster, body) {
+        Ok(open) => {
+            actions.claim = Some(open.slot);
             Ok(State::Claiming(Claim {
                 since,
-                slot: offer.slot,
+                slot: open.slot,
                 negotiated: Negotiated {
-                    hold: roster.hold().min(offer.hold),
+                    hold: roster.hold().min(open.hold),
                 },
             }))
         }

@@ -21,23 +21,23 @@ const UNKNOWN_IDENTIFIER: Fault = Fault {
     extra: Data::None,
 };
 
-/// What an OPEN from a router of the roster offers.
+/// The OPEN of a router of the roster.
 #[derive(Clone, Copy, Debug)]
-pub struct Offer {
+pub struct PeerOpen {
     pub slot: Slot,
-    /// In seconds.
+    /// The hold time, in seconds.
     pub hold: u16,
 }
 
 /// Reads the body of an OPEN, of at least 10 octets, or gives its first fault: another version than 4; another AS than
 /// the roster's; a hold time of 1 or 2 seconds; a BGP Identifier that the roster doesn't have; and then those of the
 /// parameters.
-pub fn read_offer(roster: &Roster, body: &[u8]) -> Result<Offer, Fault>
+pub fn read_peer_open(roster: &Roster, body: &[u8]) -> Result<PeerOpen, Fault>
     requires { 10 ≤ length body.now }
     ensures { MatchResult result
-        (λ offer. (opening_fault roster.now body.now ≡ None)
-        × (slot_by_identifier roster.now.members (open_fields body.now).id ≡ Some offer.slot)
-        × (offer.hold ≡ (open_fields body.now).hold))
+        (λ peer. (opening_fault roster.now body.now ≡ None)
+        × (slot_by_identifier roster.now.members (open_fields body.now).id ≡ Some peer.slot)
+        × (peer.hold ≡ (open_fields body.now).hold))
         (λ fault. (opening_fault roster.now body.now ≡ Some (fault_in [] fault)) × IsWithin [] fault.extra) }
 {
     let known = roster.slot_of_bgp(identifier_of(body));
@@ -51,7 +51,7 @@ pub fn read_offer(roster: &Roster, body: &[u8]) -> Result<Offer, Fault>
         }
     };
     match known {
-        Some(slot) => Ok(Offer {
+        Some(slot) => Ok(PeerOpen {
             slot,
             hold: open.hold,
         }),

@@ -38,7 +38,7 @@ pub struct Peering {
 pub enum State {
     /// Since this moment.
     OpenSent { since: u64 },
-    /// An OPEN came and claims a seat.
+    /// An OPEN came and claims a seat: a state of this project's own, in which octets wait.
     Claiming(Claim),
     OpenConfirm(Peering),
     Established(Peering),

@@ -1,6 +1,6 @@
 // Sessions from their first octet on: what comes to each, and what it sends, tells and ends with.
 use crate::{Actions, Closed, Session, SessionEvent, Why};
-use rcp_base::{NoMemory, Prefix, Slot};
+use rcp_base::Slot;
 use roster::{Roster, read};
 use std::alloc::Global;
 use std::test::Fail;
@@ -14,39 +14,40 @@ const LINKED: &[u8] =
 const MARKER: [u8; 16] = [0xff; 16];
 
 // The platform's OPEN behind its marker: AS 65000, hold time 90 and BGP Identifier 10.0.0.254.
-const OWN_OPEN: &[u8] = &[
-    0x00, 0x1d, 0x01, 0x04, 0xfd, 0xe8, 0x00, 0x5a, 0x0a, 0x00, 0x00, 0xfe, 0x00,
-];
+const OWN_OPEN: &[u8] = b"\x00\x1d\x01\x04\xfd\xe8\x00\x5a\x0a\x00\x00\xfe\x00";
 
 // A router's OPEN with the hold time 30 and a parameter of capabilities.
-const OPEN_30: &[u8] = &[
-    0x00, 0x1f, 0x01, 0x04, 0xfd, 0xe8, 0x00, 0x1e, 0x0a, 0x00, 0x00, 0x01, 0x02, 0x02, 0x00,
-];
+const OPEN_30: &[u8] = b"\x00\x1f\x01\x04\xfd\xe8\x00\x1e\x0a\x00\x00\x01\x02\x02\x00";
 
-const ALIVE: &[u8] = &[0x00, 0x13, 0x04];
+const ALIVE: &[u8] = b"\x00\x13\x04";
 
 // 203.0.113.0/24 with ORIGIN IGP, the path 65001, NEXT_HOP 10.0.0.1 and LOCAL_PREF 100.
-const ANNOUNCEMENT: &[u8] = &[
-    0x00, 0x34, 0x02, 0x00, 0x00, 0x00, 0x19, 0x40, 0x01, 0x01, 0x00, 0x40, 0x02, 0x04, 0x02, 0x01,
-    0xfd, 0xe9, 0x40, 0x03, 0x04, 0x0a, 0x00, 0x00, 0x01, 0x40, 0x05, 0x04, 0x00, 0x00, 0x00, 0x64,
-    0x18, 0xcb, 0x00, 0x71,
-];
+const ANNOUNCEMENT: &[u8] =
+    b"\x00\x34\x02\x00\x00\x00\x19\x40\x01\x01\x00\x40\x02\x04\x02\x01\xfd\xe9\x40\x03\x04\x0a\x00\x00\x01\x40\x05\x04\x00\x00\x00\x64\x18\xcb\x00\x71";
 
-// What comes to a session: a message without its marker, the answer to its claim, or a moment, which is that of all that
+// What comes to a session: a message without its marker, the answer to its claim, or a time, which is that of all that
 // comes until the next one.
 #[derive(Clone, Copy)]
 enum Input {
     Message(&'static [u8]),
     Seat(bool),
-    Moment(u64),
+    Time(u64),
 }
 
-// What a session did: the messages without their markers, one after another; the events, each a letter, and behind it the
-// octets of the prefix; the slot that it claimed, and its end.
+// An event, a prefix by its address and length.
+#[derive(Clone, Copy, Debug, PartialEq, Eq)]
+enum Told {
+    Up,
+    Announced(u32, u8),
+    Withdrawn(u32, u8),
+}
+
+// What a session did: the messages without their markers, one after another; the events; the slot that it claimed, and
+// its end.
 #[derive(Drop)]
 struct Log {
     sent: Vec<u8>,
-    events: Vec<u8>,
+    told: Vec<Told>,
     claim: Option<Slot>,
     closed: Option<Closed>,
 }
@@ -55,7 +56,7 @@ impl Log {
     fn new(alloc: Global) -> Log {
         Log {
             sent: Vec::new(alloc),
-            events: Vec::new(alloc),
+            told: Vec::new(alloc),
             claim: None,
             closed: None,
         }
@@ -67,32 +68,19 @@ impl Log {
             self.sent.extend_from_slice(rest)?;
         }
         for event in &actions.events {
-            self.add_event(event)?;
+            self.told.push(what_is_told(event))?;
         }
-        if let Some(slot) = actions.claim {
-            self.claim = Some(slot);
-        }
-        if let Some(closed) = actions.closed {
-            self.closed = Some(closed);
-        }
+        self.claim = actions.claim.or(self.claim);
+        self.closed = actions.closed.or(self.closed);
         Ok(())
     }
+}
 
-    fn add_event(&mut self, event: &SessionEvent) -> Result<(), Fail> {
-        match event {
-            SessionEvent::Up => self.events.push(b'U')?,
-            SessionEvent::Announce { prefix, .. } => self.add_prefix(b'A', prefix)?,
-            SessionEvent::Withdraw { prefix } => self.add_prefix(b'W', prefix)?,
-        }
-        Ok(())
-    }
-
-    fn add_prefix(&mut self, letter: u8, prefix: &Prefix) -> Result<(), Fail> {
-        let mut octets = [0; 5];
-        let count = prefix.write_octets(&mut octets);
-        self.events.push(letter)?;
-        self.events.extend_from_slice(&octets[..count])?;
-        Ok(())
+fn what_is_told(event: &SessionEvent) -> Told {
+    match event {
+        SessionEvent::Up => Told::Up,
+        SessionEvent::Announce { prefix, .. } => Told::Announced(prefix.addr(), prefix.len()),
+        SessionEvent::Withdraw { prefix } => Told::Withdrawn(prefix.addr(), prefix.len()),
     }
 }
 
@@ -113,7 +101,7 @@ fn established(alloc: Global, roster: &Roster) -> Result<(Session, Actions), Fai
     Ok(Session::established(alloc, roster, Slot(0)).map_err(|_| "memory")?)
 }
 
-// What comes does this at a moment.
+// What comes does this at a time.
 fn answer(
     alloc: Global,
     session: &mut Session,
@@ -128,7 +116,7 @@ fn answer(
             session.bytes(roster, &octets, now)
         }
         Input::Seat(free) => session.seated(roster, free, now),
-        Input::Moment(now) => session.clock(now),
+        Input::Time(now) => session.clock(now),
     };
     Ok(actions.map_err(|_| "memory")?)
 }
@@ -143,8 +131,8 @@ fn answer_all(
 ) -> Result<(), Fail> {
     let mut now = 0;
     for input in inputs {
-        if let Input::Moment(moment) = *input {
-            now = moment;
+        if let Input::Time(time) = *input {
+            now = time;
         }
         let actions = answer(alloc, session, roster, *input, now)?;
         log.add(&actions)?;
@@ -160,7 +148,7 @@ fn a_connection_begins_with_an_open(rt: HostRuntime) -> Result<(), Fail> {
     let mut log = Log::new(alloc);
     log.add(&actions)?;
     assert_eq!(rt; log.sent.as_slice(), OWN_OPEN);
-    assert!(rt; log.events.is_empty());
+    assert!(rt; log.told.is_empty());
     assert_eq!(rt; log.closed, None);
     Ok(())
 }
@@ -172,7 +160,7 @@ fn an_ended_connection_closes_its_session_once(rt: HostRuntime) -> Result<(), Fa
     let (mut session, actions) = established(alloc, &roster)?;
     let mut log = Log::new(alloc);
     log.add(&actions)?;
-    assert_eq!(rt; log.events.as_slice(), b"U".as_slice());
+    assert_eq!(rt; log.told.as_slice(), [Told::Up].as_slice());
     let end = session.end();
     assert_eq!(rt;
         end.closed,
@@ -205,7 +193,7 @@ fn ends_have_their_numbers(rt: HostRuntime) -> Result<(), Fail> {
         (Why::End, 3),
         (Why::SeatOut, 4),
     ] {
-        assert_eq!(rt; why as u8, number);
+        assert_eq!(rt; why.number(), number);
     }
     Ok(())
 }

@@ -16,8 +16,9 @@ use std::alloc::Global;
 /// The hold time, in seconds, before the OPEN of the router is taken.
 const LARGE_HOLD: u64 = 240;
 
-/// Does what is due at a moment that isn't below those before: the hold timer is tested first, and then a KEEPALIVE is
-/// sent where a third of the hold time has passed since the last one.
+/// Runs the timers at a time that never goes back: the hold timer is tested first (event 10, HoldTimer_Expires), and then
+/// a KEEPALIVE is sent where a third of the hold time has passed since the last one (event 11, KeepaliveTimer_Expires).
+/// `NoMemory` comes only where a message is to be sent.
 pub fn tick(alloc: Global, state: State, now: u64, actions: &mut Actions) -> Result<State, NoMemory>
     ensures taken { IfOk result (λ next. Takes (tick now (phase_of state)) actions.old next actions.new) }
     ensures want { OnErr result ((tick now (phase_of state)).does.sent ≢ []) }

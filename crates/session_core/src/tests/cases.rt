@@ -1,139 +1,127 @@
-// One table of sessions: what comes, and what is done.
-use super::{ALIVE, ANNOUNCEMENT, Input, Log, OPEN_30, answer_all, established, linked};
+// Tables of sessions: what comes, and what is done.
+use super::{ALIVE, ANNOUNCEMENT, Input, Log, OPEN_30, Told, answer_all, established, linked};
 use crate::{Session, Why};
 use std::alloc::Global;
 use std::test::Fail;
 
 struct Case {
     name: &'static str,
-    // Whether the session is established from its beginning; else it begins with the platform's OPEN at moment 0.
+    // Whether the session is established from its beginning; else it begins with the platform's OPEN at time 0.
     established: bool,
     inputs: &'static [Input],
     // The messages without their markers, but for the platform's OPEN.
     sent: &'static [u8],
-    events: &'static [u8],
+    told: &'static [Told],
     claim: Option<u16>,
     // Why the session ended, with the code and the subcode.
     closed: Option<(Why, u8, u8)>,
 }
 
-const CASES: &[Case] = &[
+// Faulty headers and OPENs.
+const MESSAGES: &[Case] = &[
     Case {
         name: "a length of 18",
         established: false,
-        inputs: &[Input::Message(&[0x00, 0x12, 0x04])],
-        sent: &[0x00, 0x17, 0x03, 0x01, 0x02, 0x00, 0x12],
-        events: &[],
+        inputs: &[Input::Message(b"\x00\x12\x04")],
+        sent: b"\x00\x17\x03\x01\x02\x00\x12",
+        told: &[],
         claim: None,
         closed: Some((Why::Fault, 1, 2)),
     },
     Case {
         name: "a length of 4097",
         established: false,
-        inputs: &[Input::Message(&[0x10, 0x01, 0x02])],
-        sent: &[0x00, 0x17, 0x03, 0x01, 0x02, 0x10, 0x01],
-        events: &[],
+        inputs: &[Input::Message(b"\x10\x01\x02")],
+        sent: b"\x00\x17\x03\x01\x02\x10\x01",
+        told: &[],
         claim: None,
         closed: Some((Why::Fault, 1, 2)),
     },
     Case {
         name: "a KEEPALIVE of 20 octets",
         established: false,
-        inputs: &[Input::Message(&[0x00, 0x14, 0x04])],
-        sent: &[0x00, 0x17, 0x03, 0x01, 0x02, 0x00, 0x14],
-        events: &[],
+        inputs: &[Input::Message(b"\x00\x14\x04")],
+        sent: b"\x00\x17\x03\x01\x02\x00\x14",
+        told: &[],
         claim: None,
         closed: Some((Why::Fault, 1, 2)),
     },
     Case {
         name: "an unknown type",
         established: false,
-        inputs: &[Input::Message(&[0x00, 0x13, 0x05])],
-        sent: &[0x00, 0x16, 0x03, 0x01, 0x03, 0x05],
-        events: &[],
+        inputs: &[Input::Message(b"\x00\x13\x05")],
+        sent: b"\x00\x16\x03\x01\x03\x05",
+        told: &[],
         claim: None,
         closed: Some((Why::Fault, 1, 3)),
     },
     Case {
         name: "a hold time of two seconds",
         established: false,
-        inputs: &[Input::Message(&[
-            0x00, 0x1d, 0x01, 0x04, 0xfd, 0xe8, 0x00, 0x02, 0x0a, 0x00, 0x00, 0x01, 0x00,
-        ])],
-        sent: &[0x00, 0x15, 0x03, 0x02, 0x06],
-        events: &[],
+        inputs: &[Input::Message(b"\x00\x1d\x01\x04\xfd\xe8\x00\x02\x0a\x00\x00\x01\x00")],
+        sent: b"\x00\x15\x03\x02\x06",
+        told: &[],
         claim: None,
         closed: Some((Why::Fault, 2, 6)),
     },
     Case {
         name: "an unknown identifier",
         established: false,
-        inputs: &[Input::Message(&[
-            0x00, 0x1d, 0x01, 0x04, 0xfd, 0xe8, 0x00, 0x1e, 0x0a, 0x00, 0x00, 0x09, 0x00,
-        ])],
-        sent: &[0x00, 0x15, 0x03, 0x02, 0x03],
-        events: &[],
+        inputs: &[Input::Message(b"\x00\x1d\x01\x04\xfd\xe8\x00\x1e\x0a\x00\x00\x09\x00")],
+        sent: b"\x00\x15\x03\x02\x03",
+        told: &[],
         claim: None,
         closed: Some((Why::Fault, 2, 3)),
     },
     Case {
         name: "another AS",
         established: false,
-        inputs: &[Input::Message(&[
-            0x00, 0x1d, 0x01, 0x04, 0xfd, 0xe9, 0x00, 0x1e, 0x0a, 0x00, 0x00, 0x01, 0x00,
-        ])],
-        sent: &[0x00, 0x15, 0x03, 0x02, 0x02],
-        events: &[],
+        inputs: &[Input::Message(b"\x00\x1d\x01\x04\xfd\xe9\x00\x1e\x0a\x00\x00\x01\x00")],
+        sent: b"\x00\x15\x03\x02\x02",
+        told: &[],
         claim: None,
         closed: Some((Why::Fault, 2, 2)),
     },
     Case {
         name: "version 3",
         established: false,
-        inputs: &[Input::Message(&[
-            0x00, 0x1d, 0x01, 0x03, 0xfd, 0xe8, 0x00, 0x1e, 0x0a, 0x00, 0x00, 0x01, 0x00,
-        ])],
-        sent: &[0x00, 0x17, 0x03, 0x02, 0x01, 0x00, 0x04],
-        events: &[],
+        inputs: &[Input::Message(b"\x00\x1d\x01\x03\xfd\xe8\x00\x1e\x0a\x00\x00\x01\x00")],
+        sent: b"\x00\x17\x03\x02\x01\x00\x04",
+        told: &[],
         claim: None,
         closed: Some((Why::Fault, 2, 1)),
     },
     Case {
         name: "an unknown identifier before an unknown parameter",
         established: false,
-        inputs: &[Input::Message(&[
-            0x00, 0x1f, 0x01, 0x04, 0xfd, 0xe8, 0x00, 0x1e, 0x0a, 0x00, 0x00, 0x09, 0x02, 0x01,
-            0x00,
-        ])],
-        sent: &[0x00, 0x15, 0x03, 0x02, 0x03],
-        events: &[],
+        inputs: &[Input::Message(b"\x00\x1f\x01\x04\xfd\xe8\x00\x1e\x0a\x00\x00\x09\x02\x01\x00")],
+        sent: b"\x00\x15\x03\x02\x03",
+        told: &[],
         claim: None,
         closed: Some((Why::Fault, 2, 3)),
     },
     Case {
         name: "an unknown parameter",
         established: false,
-        inputs: &[Input::Message(&[
-            0x00, 0x1f, 0x01, 0x04, 0xfd, 0xe8, 0x00, 0x1e, 0x0a, 0x00, 0x00, 0x01, 0x02, 0x01,
-            0x00,
-        ])],
-        sent: &[0x00, 0x15, 0x03, 0x02, 0x04],
-        events: &[],
+        inputs: &[Input::Message(b"\x00\x1f\x01\x04\xfd\xe8\x00\x1e\x0a\x00\x00\x01\x02\x01\x00")],
+        sent: b"\x00\x15\x03\x02\x04",
+        told: &[],
         claim: None,
         closed: Some((Why::Fault, 2, 4)),
     },
     Case {
         name: "a parameter past the end",
         established: false,
-        inputs: &[Input::Message(&[
-            0x00, 0x1f, 0x01, 0x04, 0xfd, 0xe8, 0x00, 0x1e, 0x0a, 0x00, 0x00, 0x01, 0x02, 0x02,
-            0x01,
-        ])],
-        sent: &[0x00, 0x15, 0x03, 0x02, 0x00],
-        events: &[],
+        inputs: &[Input::Message(b"\x00\x1f\x01\x04\xfd\xe8\x00\x1e\x0a\x00\x00\x01\x02\x02\x01")],
+        sent: b"\x00\x15\x03\x02\x00",
+        told: &[],
         claim: None,
         closed: Some((Why::Fault, 2, 0)),
     },
+];
+
+// Timers.
+const TIMES: &[Case] = &[
     Case {
         name: "nothing is due before a third of the hold time",
         established: false,
@@ -141,10 +129,10 @@ const CASES: &[Case] = &[
             Input::Message(OPEN_30),
             Input::Seat(true),
             Input::Message(ALIVE),
-            Input::Moment(9),
+            Input::Time(9),
         ],
-        sent: &[0x00, 0x13, 0x04],
-        events: &[0x55],
+        sent: b"\x00\x13\x04",
+        told: &[Told::Up],
         claim: Some(0),
         closed: None,
     },
@@ -155,13 +143,13 @@ const CASES: &[Case] = &[
             Input::Message(OPEN_30),
             Input::Seat(true),
             Input::Message(ALIVE),
-            Input::Moment(9),
-            Input::Moment(10),
-            Input::Moment(19),
-            Input::Moment(29),
+            Input::Time(9),
+            Input::Time(10),
+            Input::Time(19),
+            Input::Time(29),
         ],
-        sent: &[0x00, 0x13, 0x04, 0x00, 0x13, 0x04, 0x00, 0x13, 0x04],
-        events: &[0x55],
+        sent: b"\x00\x13\x04\x00\x13\x04\x00\x13\x04",
+        told: &[Told::Up],
         claim: Some(0),
         closed: None,
     },
@@ -172,15 +160,13 @@ const CASES: &[Case] = &[
             Input::Message(OPEN_30),
             Input::Seat(true),
             Input::Message(ALIVE),
-            Input::Moment(9),
-            Input::Moment(10),
-            Input::Moment(29),
-            Input::Moment(30),
+            Input::Time(9),
+            Input::Time(10),
+            Input::Time(29),
+            Input::Time(30),
         ],
-        sent: &[
-            0x00, 0x13, 0x04, 0x00, 0x13, 0x04, 0x00, 0x13, 0x04, 0x00, 0x15, 0x03, 0x04, 0x00,
-        ],
-        events: &[0x55],
+        sent: b"\x00\x13\x04\x00\x13\x04\x00\x13\x04\x00\x15\x03\x04\x00",
+        told: &[Told::Up],
         claim: Some(0),
         closed: Some((Why::Fault, 4, 0)),
     },
@@ -191,13 +177,11 @@ const CASES: &[Case] = &[
             Input::Message(OPEN_30),
             Input::Seat(true),
             Input::Message(ALIVE),
-            Input::Moment(20),
-            Input::Moment(30),
+            Input::Time(20),
+            Input::Time(30),
         ],
-        sent: &[
-            0x00, 0x13, 0x04, 0x00, 0x13, 0x04, 0x00, 0x15, 0x03, 0x04, 0x00,
-        ],
-        events: &[0x55],
+        sent: b"\x00\x13\x04\x00\x13\x04\x00\x15\x03\x04\x00",
+        told: &[Told::Up],
         claim: Some(0),
         closed: Some((Why::Fault, 4, 0)),
     },
@@ -208,30 +192,30 @@ const CASES: &[Case] = &[
             Input::Message(OPEN_30),
             Input::Seat(true),
             Input::Message(ALIVE),
-            Input::Moment(9),
-            Input::Moment(29),
+            Input::Time(9),
+            Input::Time(29),
             Input::Message(ALIVE),
-            Input::Moment(58),
+            Input::Time(58),
         ],
-        sent: &[0x00, 0x13, 0x04, 0x00, 0x13, 0x04, 0x00, 0x13, 0x04],
-        events: &[0x55],
+        sent: b"\x00\x13\x04\x00\x13\x04\x00\x13\x04",
+        told: &[Told::Up],
         claim: Some(0),
         closed: None,
     },
     Case {
-        name: "a moment below the latest counts as that",
+        name: "a time below the latest counts as that",
         established: false,
         inputs: &[
             Input::Message(OPEN_30),
             Input::Seat(true),
             Input::Message(ALIVE),
-            Input::Moment(29),
-            Input::Moment(5),
+            Input::Time(29),
+            Input::Time(5),
             Input::Message(ALIVE),
-            Input::Moment(58),
+            Input::Time(58),
         ],
-        sent: &[0x00, 0x13, 0x04, 0x00, 0x13, 0x04, 0x00, 0x13, 0x04],
-        events: &[0x55],
+        sent: b"\x00\x13\x04\x00\x13\x04\x00\x13\x04",
+        told: &[Told::Up],
         claim: Some(0),
         closed: None,
     },
@@ -239,15 +223,13 @@ const CASES: &[Case] = &[
         name: "without a hold time nothing expires",
         established: false,
         inputs: &[
-            Input::Message(&[
-                0x00, 0x1d, 0x01, 0x04, 0xfd, 0xe8, 0x00, 0x00, 0x0a, 0x00, 0x00, 0x01, 0x00,
-            ]),
+            Input::Message(b"\x00\x1d\x01\x04\xfd\xe8\x00\x00\x0a\x00\x00\x01\x00"),
             Input::Seat(true),
             Input::Message(ALIVE),
-            Input::Moment(1000000),
+            Input::Time(1000000),
         ],
-        sent: &[0x00, 0x13, 0x04],
-        events: &[0x55],
+        sent: b"\x00\x13\x04",
+        told: &[Told::Up],
         claim: Some(0),
         closed: None,
     },
@@ -255,54 +237,54 @@ const CASES: &[Case] = &[
         name: "the platform's hold time is the smaller one",
         established: false,
         inputs: &[
-            Input::Message(&[
-                0x00, 0x1d, 0x01, 0x04, 0xfd, 0xe8, 0x00, 0xb4, 0x0a, 0x00, 0x00, 0x01, 0x00,
-            ]),
+            Input::Message(b"\x00\x1d\x01\x04\xfd\xe8\x00\xb4\x0a\x00\x00\x01\x00"),
             Input::Seat(true),
             Input::Message(ALIVE),
-            Input::Moment(89),
-            Input::Moment(90),
+            Input::Time(89),
+            Input::Time(90),
         ],
-        sent: &[
-            0x00, 0x13, 0x04, 0x00, 0x13, 0x04, 0x00, 0x15, 0x03, 0x04, 0x00,
-        ],
-        events: &[0x55],
+        sent: b"\x00\x13\x04\x00\x13\x04\x00\x15\x03\x04\x00",
+        told: &[Told::Up],
         claim: Some(0),
         closed: Some((Why::Fault, 4, 0)),
     },
     Case {
         name: "the OPEN is waited for",
         established: false,
-        inputs: &[Input::Moment(239)],
-        sent: &[],
-        events: &[],
+        inputs: &[Input::Time(239)],
+        sent: b"",
+        told: &[],
         claim: None,
         closed: None,
     },
     Case {
         name: "the OPEN comes too late",
         established: false,
-        inputs: &[Input::Moment(239), Input::Moment(240)],
-        sent: &[0x00, 0x15, 0x03, 0x04, 0x00],
-        events: &[],
+        inputs: &[Input::Time(239), Input::Time(240)],
+        sent: b"\x00\x15\x03\x04\x00",
+        told: &[],
         claim: None,
         closed: Some((Why::Fault, 4, 0)),
     },
     Case {
         name: "the answer to a claim comes too late",
         established: false,
-        inputs: &[Input::Message(OPEN_30), Input::Moment(240)],
-        sent: &[0x00, 0x15, 0x03, 0x04, 0x00],
-        events: &[],
+        inputs: &[Input::Message(OPEN_30), Input::Time(240)],
+        sent: b"\x00\x15\x03\x04\x00",
+        told: &[],
         claim: Some(0),
         closed: Some((Why::Fault, 4, 0)),
     },
+];
+
+// What each state takes.
+const STATES: &[Case] = &[
     Case {
         name: "the seat is taken",
         established: false,
         inputs: &[Input::Message(OPEN_30), Input::Seat(false)],
-        sent: &[0x00, 0x15, 0x03, 0x06, 0x00],
-        events: &[],
+        sent: b"\x00\x15\x03\x06\x00",
+        told: &[],
         claim: Some(0),
         closed: Some((Why::SeatOut, 6, 0)),
     },
@@ -314,8 +296,8 @@ const CASES: &[Case] = &[
             Input::Message(ALIVE),
             Input::Seat(true),
         ],
-        sent: &[0x00, 0x13, 0x04],
-        events: &[0x55],
+        sent: b"\x00\x13\x04",
+        told: &[Told::Up],
         claim: Some(0),
         closed: None,
     },
@@ -323,8 +305,8 @@ const CASES: &[Case] = &[
         name: "no octet is read before the seat is taken",
         established: false,
         inputs: &[Input::Message(OPEN_30), Input::Message(ALIVE)],
-        sent: &[],
-        events: &[],
+        sent: b"",
+        told: &[],
         claim: Some(0),
         closed: None,
     },
@@ -332,8 +314,8 @@ const CASES: &[Case] = &[
         name: "an UPDATE before the OPEN",
         established: false,
         inputs: &[Input::Message(ANNOUNCEMENT)],
-        sent: &[0x00, 0x15, 0x03, 0x05, 0x00],
-        events: &[],
+        sent: b"\x00\x15\x03\x05\x00",
+        told: &[],
         claim: None,
         closed: Some((Why::Fault, 5, 0)),
     },
@@ -341,8 +323,8 @@ const CASES: &[Case] = &[
         name: "a KEEPALIVE before the OPEN",
         established: false,
         inputs: &[Input::Message(ALIVE)],
-        sent: &[0x00, 0x15, 0x03, 0x05, 0x00],
-        events: &[],
+        sent: b"\x00\x15\x03\x05\x00",
+        told: &[],
         claim: None,
         closed: Some((Why::Fault, 5, 0)),
     },
@@ -354,8 +336,8 @@ const CASES: &[Case] = &[
             Input::Seat(true),
             Input::Message(ANNOUNCEMENT),
         ],
-        sent: &[0x00, 0x13, 0x04, 0x00, 0x15, 0x03, 0x05, 0x00],
-        events: &[],
+        sent: b"\x00\x13\x04\x00\x15\x03\x05\x00",
+        told: &[],
         claim: Some(0),
         closed: Some((Why::Fault, 5, 0)),
     },
@@ -367,8 +349,8 @@ const CASES: &[Case] = &[
             Input::Seat(true),
             Input::Message(OPEN_30),
         ],
-        sent: &[0x00, 0x13, 0x04, 0x00, 0x15, 0x03, 0x05, 0x00],
-        events: &[],
+        sent: b"\x00\x13\x04\x00\x15\x03\x05\x00",
+        told: &[],
         claim: Some(0),
         closed: Some((Why::Fault, 5, 0)),
     },
@@ -376,17 +358,17 @@ const CASES: &[Case] = &[
         name: "an OPEN in Established",
         established: true,
         inputs: &[Input::Message(OPEN_30)],
-        sent: &[0x00, 0x15, 0x03, 0x05, 0x00],
-        events: &[],
+        sent: b"\x00\x15\x03\x05\x00",
+        told: &[],
         claim: None,
         closed: Some((Why::Fault, 5, 0)),
     },
     Case {
         name: "a NOTIFICATION before the OPEN isn't answered",
         established: false,
-        inputs: &[Input::Message(&[0x00, 0x15, 0x03, 0x06, 0x00])],
-        sent: &[],
-        events: &[],
+        inputs: &[Input::Message(b"\x00\x15\x03\x06\x00")],
+        sent: b"",
+        told: &[],
         claim: None,
         closed: Some((Why::Received, 6, 0)),
     },
@@ -394,73 +376,70 @@ const CASES: &[Case] = &[
         name: "a NOTIFICATION isn't answered, and ends all",
         established: true,
         inputs: &[
-            Input::Message(&[0x00, 0x15, 0x03, 0x06, 0x00]),
+            Input::Message(b"\x00\x15\x03\x06\x00"),
             Input::Message(ALIVE),
-            Input::Moment(300),
+            Input::Time(300),
             Input::Message(ANNOUNCEMENT),
         ],
-        sent: &[],
-        events: &[],
+        sent: b"",
+        told: &[],
         claim: None,
         closed: Some((Why::Received, 6, 0)),
     },
+];
+
+// UPDATEs.
+const UPDATES: &[Case] = &[
     Case {
         name: "an ORIGIN of 3",
         established: true,
-        inputs: &[Input::Message(&[
-            0x00, 0x2d, 0x02, 0x00, 0x00, 0x00, 0x12, 0x40, 0x01, 0x01, 0x03, 0x40, 0x02, 0x04,
-            0x02, 0x01, 0xfd, 0xe9, 0x40, 0x03, 0x04, 0x0a, 0x00, 0x00, 0x01, 0x18, 0xcb, 0x00,
-            0x71,
-        ])],
-        sent: &[0x00, 0x19, 0x03, 0x03, 0x06, 0x40, 0x01, 0x01, 0x03],
-        events: &[],
+        inputs: &[Input::Message(
+            b"\x00\x2d\x02\x00\x00\x00\x12\x40\x01\x01\x03\x40\x02\x04\x02\x01\xfd\xe9\x40\x03\x04\x0a\x00\x00\x01\x18\xcb\x00\x71",
+        )],
+        sent: b"\x00\x19\x03\x03\x06\x40\x01\x01\x03",
+        told: &[],
         claim: None,
         closed: Some((Why::Fault, 3, 6)),
     },
     Case {
         name: "ORIGIN twice",
         established: true,
-        inputs: &[Input::Message(&[
-            0x00, 0x31, 0x02, 0x00, 0x00, 0x00, 0x16, 0x40, 0x01, 0x01, 0x00, 0x40, 0x01, 0x01,
-            0x00, 0x40, 0x02, 0x04, 0x02, 0x01, 0xfd, 0xe9, 0x40, 0x03, 0x04, 0x0a, 0x00, 0x00,
-            0x01, 0x18, 0xcb, 0x00, 0x71,
-        ])],
-        sent: &[0x00, 0x15, 0x03, 0x03, 0x01],
-        events: &[],
+        inputs: &[Input::Message(
+            b"\x00\x31\x02\x00\x00\x00\x16\x40\x01\x01\x00\x40\x01\x01\x00\x40\x02\x04\x02\x01\xfd\xe9\x40\x03\x04\x0a\x00\x00\x01\x18\xcb\x00\x71",
+        )],
+        sent: b"\x00\x15\x03\x03\x01",
+        told: &[],
         claim: None,
         closed: Some((Why::Fault, 3, 1)),
     },
     Case {
         name: "NLRI without NEXT_HOP",
         established: true,
-        inputs: &[Input::Message(&[
-            0x00, 0x26, 0x02, 0x00, 0x00, 0x00, 0x0b, 0x40, 0x01, 0x01, 0x00, 0x40, 0x02, 0x04,
-            0x02, 0x01, 0xfd, 0xe9, 0x18, 0xcb, 0x00, 0x71,
-        ])],
-        sent: &[0x00, 0x16, 0x03, 0x03, 0x03, 0x03],
-        events: &[],
+        inputs: &[Input::Message(
+            b"\x00\x26\x02\x00\x00\x00\x0b\x40\x01\x01\x00\x40\x02\x04\x02\x01\xfd\xe9\x18\xcb\x00\x71",
+        )],
+        sent: b"\x00\x16\x03\x03\x03\x03",
+        told: &[],
         claim: None,
         closed: Some((Why::Fault, 3, 3)),
     },
     Case {
         name: "a prefix of 33 bits",
         established: true,
-        inputs: &[Input::Message(&[
-            0x00, 0x2f, 0x02, 0x00, 0x00, 0x00, 0x12, 0x40, 0x01, 0x01, 0x00, 0x40, 0x02, 0x04,
-            0x02, 0x01, 0xfd, 0xe9, 0x40, 0x03, 0x04, 0x0a, 0x00, 0x00, 0x01, 0x21, 0x01, 0x02,
-            0x03, 0x04, 0x05,
-        ])],
-        sent: &[0x00, 0x15, 0x03, 0x03, 0x0a],
-        events: &[],
+        inputs: &[Input::Message(
+            b"\x00\x2f\x02\x00\x00\x00\x12\x40\x01\x01\x00\x40\x02\x04\x02\x01\xfd\xe9\x40\x03\x04\x0a\x00\x00\x01\x21\x01\x02\x03\x04\x05",
+        )],
+        sent: b"\x00\x15\x03\x03\x0a",
+        told: &[],
         claim: None,
         closed: Some((Why::Fault, 3, 10)),
     },
     Case {
         name: "an UPDATE of 23 octets",
         established: true,
-        inputs: &[Input::Message(&[0x00, 0x17, 0x02, 0x00, 0x00, 0x00, 0x00])],
-        sent: &[],
-        events: &[],
+        inputs: &[Input::Message(b"\x00\x17\x02\x00\x00\x00\x00")],
+        sent: b"",
+        told: &[],
         claim: None,
         closed: None,
     },
@@ -468,23 +447,23 @@ const CASES: &[Case] = &[
         name: "an announcement",
         established: true,
         inputs: &[Input::Message(ANNOUNCEMENT)],
-        sent: &[],
-        events: &[0x41, 0x18, 0xcb, 0x00, 0x71],
+        sent: b"",
+        told: &[Told::Announced(0xcb007100, 24)],
         claim: None,
         closed: None,
     },
     Case {
         name: "withdrawn routes come first, without those of the NLRI, each as often as it is there",
         established: true,
-        inputs: &[Input::Message(&[
-            0x00, 0x39, 0x02, 0x00, 0x08, 0x18, 0xcb, 0x00, 0x71, 0x08, 0x0a, 0x08, 0x0a, 0x00,
-            0x12, 0x40, 0x01, 0x01, 0x00, 0x40, 0x02, 0x04, 0x02, 0x01, 0xfd, 0xe9, 0x40, 0x03,
-            0x04, 0x0a, 0x00, 0x00, 0x01, 0x18, 0xcb, 0x00, 0x71, 0x18, 0xcb, 0x00, 0x71,
-        ])],
-        sent: &[],
-        events: &[
-            0x57, 0x08, 0x0a, 0x57, 0x08, 0x0a, 0x41, 0x18, 0xcb, 0x00, 0x71, 0x41, 0x18, 0xcb,
-            0x00, 0x71,
+        inputs: &[Input::Message(
+            b"\x00\x39\x02\x00\x08\x18\xcb\x00\x71\x08\x0a\x08\x0a\x00\x12\x40\x01\x01\x00\x40\x02\x04\x02\x01\xfd\xe9\x40\x03\x04\x0a\x00\x00\x01\x18\xcb\x00\x71\x18\xcb\x00\x71",
+        )],
+        sent: b"",
+        told: &[
+            Told::Withdrawn(0x0a000000, 8),
+            Told::Withdrawn(0x0a000000, 8),
+            Told::Announced(0xcb007100, 24),
+            Told::Announced(0xcb007100, 24),
         ],
         claim: None,
         closed: None,
@@ -504,24 +483,68 @@ fn run(alloc: Global, case: &Case) -> Result<Log, Fail> {
     Ok(log)
 }
 
-// Whether a session does what its case says.
-fn holds(alloc: Global, case: &Case) -> Result<bool, Fail> {
-    let log = run(alloc, case)?;
+// The first thing in which a session differs from its case.
+fn differing(log: &Log, case: &Case) -> &'static str {
+    if log.sent.as_slice() != case.sent {
+        return "what is sent";
+    }
+    if log.told.as_slice() != case.told {
+        return "what is told";
+    }
+    if log.claim.map(|slot| slot.0) != case.claim {
+        return "the claim";
+    }
     let closed = log
         .closed
         .map(|closed| (closed.why, closed.code, closed.sub));
-    Ok(
-        log.sent.as_slice() == case.sent
-            && log.events.as_slice() == case.events
-            && log.claim.map(|slot| slot.0) == case.claim
-            && closed == case.closed,
-    )
+    if closed != case.closed {
+        return "the end";
+    }
+    "nothing"
+}
+
+// The first case that differs, and in what.
+fn first_differing(alloc: Global, cases: &[Case]) -> Result<(&'static str, &'static str), Fail> {
+    for case in cases {
+        let what = differing(&run(alloc, case)?, case);
+        if what != "nothing" {
+            return Ok((case.name, what));
+        }
+    }
+    Ok(("no case", "nothing"))
 }
 
 #[test]
-fn each_session_does_what_its_case_says(rt: HostRuntime) -> Result<(), Fail> {
-    for case in CASES {
-        assert!(rt; holds(rt.alloc(), case)?, "{}", case.name);
-    }
+fn a_faulty_header_or_open_ends_the_session_by_its_first_fault(
+    rt: HostRuntime,
+) -> Result<(), Fail> {
+    assert_eq!(rt;
+        first_differing(rt.alloc(), MESSAGES)?,
+        ("no case", "nothing")
+    );
+    Ok(())
+}
+
+#[test]
+fn timers_are_those_of_the_hold_time(rt: HostRuntime) -> Result<(), Fail> {
+    assert_eq!(rt; first_differing(rt.alloc(), TIMES)?, ("no case", "nothing"));
+    Ok(())
+}
+
+#[test]
+fn each_state_takes_its_messages(rt: HostRuntime) -> Result<(), Fail> {
+    assert_eq!(rt;
+        first_differing(rt.alloc(), STATES)?,
+        ("no case", "nothing")
+    );
+    Ok(())
+}
+
+#[test]
+fn an_update_counts_only_where_it_is_faultless(rt: HostRuntime) -> Result<(), Fail> {
+    assert_eq!(rt;
+        first_differing(rt.alloc(), UPDATES)?,
+        ("no case", "nothing")
+    );
     Ok(())
 }

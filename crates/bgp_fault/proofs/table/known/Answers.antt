@@ -19,7 +19,7 @@ asks c =
     c.is_some.ensures
     ∙ is_some-copied c.find.result
     ∙ ap is_some c.find.ensures.row
-    ∙ ap (λ (rows : List Row). is_some (row_of rows c.from_be_bytes.result)) c.rows.ensures
+    ∙ ap (λ (rows : List Row). is_some (row_of rows c.from_be_bytes.result)) c.rows.ensures.table
     ∙ ap (λ (n : ℕ). is_some (row_of ROWS n)) c.from_be_bytes.ensures
 
 pub returns : goal.returns

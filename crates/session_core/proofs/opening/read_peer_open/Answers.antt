@@ -2,8 +2,8 @@ use Rattle.std.proofs.Common.{ℕ, sym, ap, ◌∙◌}
 use Rattle.bgp_msg.specs.Opened.{fault_but_identifier}
 use Rattle.rcp_model.specs.Sessions.{slot_by_identifier}
 use Rattle.session_core.proofs.OpenLemmas.{accepted, unknown, unknown-behind, faulted-early, faulted-known, none-of, some-of}
-use Rattle.session_core.proofs.opening.read_offer.Goals as goal
-use Rattle.session_core.proofs.opening.read_offer.Goals.{else-is_none-via-then-is_none+else-is_of_parameters, else-is_none-via-else-is_none}
+use Rattle.session_core.proofs.opening.read_peer_open.Goals as goal
+use Rattle.session_core.proofs.opening.read_peer_open.Goals.{else-is_none-via-then-is_none+else-is_of_parameters, else-is_none-via-else-is_none}
 
 pub returns-then-is_of_parameters : goal.returns-then-is_of_parameters
 returns-then-is_of_parameters c =
