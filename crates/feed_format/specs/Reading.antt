@@ -1,8 +1,9 @@
 -- What taking a record from a source gives, and how far it got.
-use Rattle.std.specs.Prelude.{◌≡◌, ℕ, ◌+◌, ◌<◌, ◌≤◌, List, length, Option, Some, None, Result, Ok, Err, IfSome}
+use Rattle.std.specs.Prelude.{◌≡◌, ℕ, ◌+◌, ◌^◌, ◌<◌, ◌≤◌, ◌⊎◌, IsTrue, List, length, Option, Some, None, Result, Ok, Err, IfSome}
 use Rattle.outside.specs.Told.{in_front}
 use Rattle.rcp_base.specs.declared.kinds.FeedWhy.{FeedWhy}
-use Rattle.rcp_base.specs.Feed.{FeedRecord, FeedState, IsRecord, record_octets, fault_of, fault_in_front, front, frame_size}
+use Rattle.rcp_base.specs.Checks.{first_failing}
+use Rattle.rcp_base.specs.Feed.{FeedRecord, FeedState, IsRecord, record_octets, length_at, begins, frame_checks, fault_of, fault_in_front, front, frame_size}
 use Rattle.feed_format.specs.declared.taking.Stop.{Stop}
 use Rattle.feed_format.specs.declared.taking.Stop.TheVariants as stop
 use Rattle.feed_format.specs.declared.reader.FeedRefusal.{FeedRefusal}
@@ -46,6 +47,26 @@ Takes state before now (Ok item) = TakesRecord state before now item
 Takes state before now (Err (stop.Fault fault)) = TakesFault state before now fault
 Takes state before now (Err stop.Read) = TakesLess before now
 Takes state before now (Err stop.NoMemory) = TakesPart before now
+
+-- Where memory is wanted. A faultless header stands in front and a body is to follow, of which nothing was taken:
+pub record AtBody (state : FeedState) (before now : Option (List ℕ)) : Type 0 where
+  pub header : List ℕ
+  pub nine : length header ≡ 9
+  pub few : state.octets < 2 ^ 40
+  pub faultless : first_failing (frame_checks state header) ≡ None
+  pub body : 0 < length_at header
+  pub given : before ≡ in_front header now
+
+-- or a faultless record was taken, which begins a connection.
+pub record AtConnection (state : FeedState) (before now : Option (List ℕ)) : Type 0 where
+  pub item : FeedRecord
+  pub form : IsRecord item
+  pub faultless : fault_of state item ≡ None
+  pub begins : IsTrue (begins item.kind)
+  pub given : before ≡ in_front (record_octets item) now
+
+abbrev pub WantsMemory : FeedState → Option (List ℕ) → Option (List ℕ) → Type 0
+WantsMemory state before now = AtBody state before now ⊎ AtConnection state before now
 
 -- the refusal that a stop at the record of this number is
 abbrev pub IsRefusal : ℕ → Stop → FeedRefusal → Type 0

@@ -6,7 +6,8 @@
 //!
 //! A caller may rely on this: [`Reader::next`] gives exactly the records of the feed that stands in front of the
 //! octets, one at a time, and else exactly its first fault in the order of the checks, at the number of the record; a
-//! read fault only where the source failed. It takes no octet behind a record. What [`write_out`] wrote is read again
+//! read fault only where the source failed. Memory is wanted only for a body behind a faultless header, or for the number
+//! of a new connection behind a faultless record. It takes no octet behind a record. What [`write_out`] wrote is read again
 //! as that record.
 //!
 //! ```text
@@ -26,7 +27,7 @@ pub use laws::records_are_read_again;
 pub use rcp_base::{FeedWhy, Kind, RosterWhy};
 pub use reader::{FeedRefusal, Reader};
 pub use record::{Out, Record};
-pub use status::{Status, WalkRefusal, WalkWhy};
+pub use status::{Status, WalkRefusal, WalkWhy, number_of_fault};
 pub use writing::write_out;
 
 #[cfg(test)]

@@ -72,7 +72,7 @@ struct Header {
 }
 
 impl Reader {
-    ghost use Rattle.feed_format.specs.Reading.{Takes, TakesPart, TakesLess, Gives};
+    ghost use Rattle.feed_format.specs.Reading.{Takes, TakesPart, TakesLess, Gives, AtBody, WantsMemory};
 
     /// Before the first record of the first feed.
     pub fn new(alloc: Global) -> Reader
@@ -117,6 +117,9 @@ impl Reader {
         ensures read { result ≡ Err FeedRefusal.Read → Rose (S.faults source.old) (S.faults source.new) }
         ensures never_falls { NeverFalls (S.faults source.old) (S.faults source.new) }
 
+        // Memory is wanted only behind a faultless header: for its body, or for a connection that the whole record begins.
+        ensures no_memory { result ≡ Err FeedRefusal.NoMemory → WantsMemory self.old (S.left source.old) (S.left source.new) }
+
         // A refusal ends the feed. It took no more than the record in front, a failed read less.
         ensures closed { OnErr result (self.new ≡ record self.old { closed = true }) }
         ensures part { OnErr result (TakesPart (S.left source.old) (S.left source.new)) }
@@ -140,6 +143,7 @@ impl Reader {
         ensures err { OnErr result (self.new ≡ self.old) }
         ensures too_long { (result ≡ Err (Stop.Fault why.TooLong)) ↔ (2 ^ 40 ≤ self.old.octets) }
         ensures read { result ≡ Err Stop.Read → Rose (S.faults source.old) (S.faults source.new) }
+        ensures no_memory { result ≡ Err Stop.NoMemory → WantsMemory self.old (S.left source.old) (S.left source.new) }
         ensures never_falls { NeverFalls (S.faults source.old) (S.faults source.new) }
     {
         let item = self.take(source)?;
@@ -153,6 +157,7 @@ impl Reader {
         requires lawful { fault_of self.old item.now ≡ None }
         ensures ok { OnOk result (self.new ≡ after self.old item.now) }
         ensures err { OnErr result (self.new ≡ self.old) }
+        ensures begins { OnErr result (IsTrue (begins item.now.kind)) }
     {
         let last = self.last_after(item);
         let moment = self.moment_after(item);
@@ -191,6 +196,7 @@ impl Reader {
         ensures takes { Takes self.now (S.left source.old) (S.left source.new) result }
         ensures too_long { (result ≡ Err (Stop.Fault why.TooLong)) ↔ (2 ^ 40 ≤ self.now.octets) }
         ensures read { result ≡ Err Stop.Read → Rose (S.faults source.old) (S.faults source.new) }
+        ensures no_memory { result ≡ Err Stop.NoMemory → AtBody self.now (S.left source.old) (S.left source.new) }
         ensures never_falls { NeverFalls (S.faults source.old) (S.faults source.new) }
     {
         if self.octets >= MOST_OCTETS {
@@ -295,6 +301,7 @@ fn refusal(number: u64, stop: Stop) -> FeedRefusal
 fn keep_live(live: &mut Vec<u32>, item: &Record) -> Result<(), NoMemory>
     ensures ok { OnOk result (live.new.items ≡ live_after live.old.items item.now) }
     ensures err { OnErr result (live.new.items ≡ live.old.items) }
+    ensures begins { OnErr result (IsTrue (begins item.now.kind)) }
 {
     match item.kind {
         Kind::Ready | Kind::Raw => {

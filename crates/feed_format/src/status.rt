@@ -1,6 +1,7 @@
 //! How a run of a program ends.
 
 ghost use Rattle.std.specs.Prelude.{◌≡◌};
+ghost use Rattle.feed_format.specs.Numbers.{number_of_fault};
 
 use rcp_base::{FeedWhy, Prefix, RosterWhy, RouterId};
 use thiserror::Error;
@@ -36,6 +37,13 @@ impl WalkWhy {
             WalkWhy::ZeroCost { .. } => 4,
         }
     }
+}
+
+/// The number of a fault of a feed: 1 to 11, in the order of the variants.
+pub fn number_of_fault(why: FeedWhy) -> u8
+    ensures { result ≡ number_of_fault why }
+{
+    why as u8
 }
 
 /// No walk is told.

@@ -64,7 +64,8 @@ pub fn read_exactly<S: Source>(source: &mut S, buf: &mut [u8]) -> Result<(), Sto
     Ok(())
 }
 
-/// So many next octets, as a list of their own. The room is found before an octet is taken.
+/// So many next octets, as a list of their own. The room is found before an octet is taken, and none is wanted for no
+/// octets.
 pub fn read_body<S: Source>(alloc: Global, source: &mut S, len: usize) -> Result<Vec<u8>, Stop>
     ensures len { IfOk result (λ body. length body.items ≡ len) }
     ensures ok { IfOk result (λ body. S.left source.old ≡ in_front body.items (S.left source.new)) }
@@ -74,8 +75,12 @@ pub fn read_body<S: Source>(alloc: Global, source: &mut S, len: usize) -> Result
     ensures cause { IfErr result IsNoOtherFault }
     ensures read { result ≡ Err Stop.Read → Rose (S.faults source.old) (S.faults source.new) }
     ensures less { result ≡ Err Stop.Read → TakesFewer len (S.left source.old) (S.left source.new) }
+    ensures room { result ≡ Err Stop.NoMemory → (0 < len) × (S.left source.new ≡ S.left source.old) }
     ensures never_falls { NeverFalls (S.faults source.old) (S.faults source.new) }
 {
+    if len == 0 {
+        return Ok(Vec::new(alloc));
+    }
     let mut body = vec![in alloc; 0; len]?;
     read_exactly(source, &mut body)?;
     Ok(body)

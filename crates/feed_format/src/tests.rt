@@ -71,7 +71,7 @@ fn faults_have_their_words(rt: HostRuntime) -> Result<(), Fail> {
         (FeedWhy::BadBody, 10, "bad body"),
         (FeedWhy::TooMany, 11, "too many"),
     ] {
-        assert_eq!(rt; why as u8, number, "{text}");
+        assert_eq!(rt; number_of_fault(why), number, "{text}");
         let word = why.to_string(rt.alloc())?;
         assert_eq!(rt; word.as_str(), text);
     }
