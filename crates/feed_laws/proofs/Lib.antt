@@ -7,3 +7,4 @@ pub mod LinkLemmas
 pub mod MeaningLemmas
 pub mod LineLemmas
 pub mod RosterTextLemmas
+pub mod RosterFormLemmas
