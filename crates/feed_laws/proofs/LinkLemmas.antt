@@ -20,7 +20,7 @@ use Rattle.feed_laws.proofs.RunLemmas.{joined, run_cons, run_nil}
 
 -- ---- the stream
 
--- with more octets behind it framing that is lost stays so
+-- with more octets after it framing that is lost stays so
 lost_rest : (octets more : List ℕ) → front_of (rest_in octets) ≡ lost → front_of (rest_in (octets ++ more)) ≡ lost
 unfolding packet_size
 lost_rest octets more is =
@@ -43,10 +43,10 @@ after_lost place octets more is =
 abbrev before_packets : List (List ℕ) → Framed → Framed
 before_packets packets found = record found { packets = packets ++ found.packets }
 
-held_behind : (first packets : List (List ℕ)) (place : ℕ) (rest : List ℕ) (front : Front) → held_after (first ++ packets) place rest front ≡ before_packets first (held_after packets place rest front)
-held_behind first packets place rest (whole n) = refl
-held_behind first packets place rest part = refl
-held_behind first packets place rest lost = refl
+held_later : (first packets : List (List ℕ)) (place : ℕ) (rest : List ℕ) (front : Front) → held_after (first ++ packets) place rest front ≡ before_packets first (held_after packets place rest front)
+held_later first packets place rest (whole n) = refl
+held_later first packets place rest part = refl
+held_later first packets place rest lost = refl
 
 after_read : (place : ℕ) (octets more : List ℕ)
     → framed place (octets ++ more) ≡ before_packets (packets_in octets) (framed (place + length (concat (packets_in octets))) (rest_in octets ++ more))
@@ -59,7 +59,7 @@ after_read place octets more =
     ap (λ (ps : List (List ℕ)). held_after ps (place + length (concat ps)) (rest_in (octets ++ more)) (front_of (rest_in (octets ++ more)))) (packets_in-append octets more)
     ∙ ap (λ (r : List ℕ). held_after (first ++ packets) (place + length (concat (first ++ packets))) r (front_of r)) (rest_in-append octets more)
     ∙ ap (λ (n : ℕ). held_after (first ++ packets) n rest (front_of rest)) count
-    ∙ held_behind first packets (place + length (concat first) + length (concat packets)) rest (front_of rest)
+    ∙ held_later first packets (place + length (concat first) + length (concat packets)) rest (front_of rest)
 
 -- Either the framing is lost, and more octets are of no account; or they are framed with those that are held.
 abbrev Goes : ℕ → List ℕ → List ℕ → Type 0
