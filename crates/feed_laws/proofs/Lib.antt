@@ -9,3 +9,4 @@ pub mod MeaningLemmas
 pub mod LineLemmas
 pub mod RosterTextLemmas
 pub mod RosterFormLemmas
+pub mod FeedLemmas

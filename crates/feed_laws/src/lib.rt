@@ -8,6 +8,7 @@
 //!   is no fault; and what octets come to as a feed, by the roster of the first record;
 //! - `cuts`: it makes no difference how octets that come at one time are cut into records, on a connection or in the stream of
 //!   link state, but for the pending prefixes in the latter;
+//! - `runs`: the headline for every feed, without further premises; records of no open connection;
 //! - `rosters`: each roster has one canonical text, which is read as that roster.
 //!
 //! ```text
@@ -18,3 +19,4 @@
 pub mod cuts;
 pub mod readings;
 pub mod rosters;
+pub mod runs;
