@@ -7,16 +7,16 @@ use Rattle.rcp_base.specs.Feed.{OutRecord}
 use Rattle.rcp_base.specs.Maps.{get_at, put_at, set_at, without}
 use Rattle.rcp_model.specs.LinkState.{same_number}
 use Rattle.rcp_model.specs.RouteServer.{Server, ServerEvent, after_all}
-use Rattle.rcp_model.specs.Sessions.{is_closed, Ending, Doing, SessionState, Answer, later_of, answer, Octets}
+use Rattle.rcp_model.specs.Sessions.{is_closed, Ending, Doing, SessionState, Answer, later_of, answer, Octets, End}
 use Rattle.feed_meaning.specs.Platform.{Connections, Platform, Acted, domain_of, nothing_done}
 use Rattle.feed_meaning.specs.OutRecords.{messages_to, end_record}
-use Rattle.feed_meaning.specs.SessionTurns.{Turn, claim_turn, octets_turn, connection_at, turn_events, turn_output, if_open, after_turn, after_turns}
+use Rattle.feed_meaning.specs.SessionTurns.{Turn, simple_turn, claim_turn, octets_turn, connection_at, turn_events, turn_output, if_open, after_turn, after_turns}
 use Rattle.feed_meaning.specs.Runs.{act}
 use Rattle.rcp_base.proofs.MapLemmas.{get_at-set_at_same}
 use Rattle.rcp_model.proofs.ServerLemmas.{number_test}
 use Rattle.rcp_model.proofs.SessionLemmas.{later_of-none}
 use Rattle.feed_meaning.proofs.EventLemmas.{after_all-append}
-use Rattle.feed_laws.specs.Cuts.{octets_record, run_of}
+use Rattle.feed_laws.specs.Cuts.{octets_record, end_record as end_of_connection, run_of}
 use Rattle.feed_laws.proofs.RunLemmas.{joined, run_cons, run_nil}
 use Rattle.feed_laws.proofs.TurnLemmas.{Joins, continues}
 
@@ -75,9 +75,16 @@ module _ (platform : Platform) (number : ℕ) (body : List ℕ) where
   by_found : (o : Option SessionState) → get_at same_number number platform.connections ≡ o → act platform (octets_record number body) ≡ by_turns (map (octets_turn platform body) (found number o))
   by_found o is = by_act ∙ ap (λ (es : Connections). by_turns (map (octets_turn platform body) es)) (connection_found platform.connections number o is)
 
-  no_connection : get_at same_number number platform.connections ≡ None → act platform (octets_record number body) ≡ nothing_done platform
+  pub no_connection : get_at same_number number platform.connections ≡ None → act platform (octets_record number body) ≡ nothing_done platform
   unfolding found
   no_connection none = by_found None none
+
+  -- the end of a connection that isn't there
+  pub no_end : get_at same_number number platform.connections ≡ None → act platform (end_of_connection number body) ≡ nothing_done platform
+  unfolding act found
+  no_end none =
+      ap (λ (es : Connections). record { after = after_turns (map (simple_turn platform.roster End) es) platform; out = (flat_map turn_output (map (simple_turn platform.roster End) es) ++ []) ++ [] })
+      (connection_found platform.connections number None none)
 
   abbrev by_turn : Turn → Acted
   by_turn one = record { after = after_turn one platform; out = turn_output one }

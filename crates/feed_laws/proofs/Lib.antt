@@ -4,6 +4,9 @@ pub mod TurnLemmas
 pub mod RunLemmas
 pub mod ConnectionLemmas
 pub mod LinkLemmas
+pub mod PendingLemmas
 pub mod MeaningLemmas
 pub mod LineLemmas
 pub mod RosterTextLemmas
+pub mod RosterFormLemmas
+pub mod FeedLemmas

@@ -20,7 +20,7 @@ use Rattle.feed_laws.proofs.RunLemmas.{joined, run_cons, run_nil}
 
 -- ---- the stream
 
--- with more octets behind it framing that is lost stays so
+-- with more octets after it framing that is lost stays so
 lost_rest : (octets more : List ℕ) → front_of (rest_in octets) ≡ lost → front_of (rest_in (octets ++ more)) ≡ lost
 unfolding packet_size
 lost_rest octets more is =
@@ -40,13 +40,13 @@ after_lost place octets more is =
     ∙ sym (framed_by place octets lost is)
 
 -- packets that came before
-abbrev before_packets : List (List ℕ) → Framed → Framed
+abbrev pub before_packets : List (List ℕ) → Framed → Framed
 before_packets packets found = record found { packets = packets ++ found.packets }
 
-held_behind : (first packets : List (List ℕ)) (place : ℕ) (rest : List ℕ) (front : Front) → held_after (first ++ packets) place rest front ≡ before_packets first (held_after packets place rest front)
-held_behind first packets place rest (whole n) = refl
-held_behind first packets place rest part = refl
-held_behind first packets place rest lost = refl
+held_later : (first packets : List (List ℕ)) (place : ℕ) (rest : List ℕ) (front : Front) → held_after (first ++ packets) place rest front ≡ before_packets first (held_after packets place rest front)
+held_later first packets place rest (whole n) = refl
+held_later first packets place rest part = refl
+held_later first packets place rest lost = refl
 
 after_read : (place : ℕ) (octets more : List ℕ)
     → framed place (octets ++ more) ≡ before_packets (packets_in octets) (framed (place + length (concat (packets_in octets))) (rest_in octets ++ more))
@@ -59,17 +59,17 @@ after_read place octets more =
     ap (λ (ps : List (List ℕ)). held_after ps (place + length (concat ps)) (rest_in (octets ++ more)) (front_of (rest_in (octets ++ more)))) (packets_in-append octets more)
     ∙ ap (λ (r : List ℕ). held_after (first ++ packets) (place + length (concat (first ++ packets))) r (front_of r)) (rest_in-append octets more)
     ∙ ap (λ (n : ℕ). held_after (first ++ packets) n rest (front_of rest)) count
-    ∙ held_behind first packets (place + length (concat first) + length (concat packets)) rest (front_of rest)
+    ∙ held_later first packets (place + length (concat first) + length (concat packets)) rest (front_of rest)
 
 -- Either the framing is lost, and more octets are of no account; or they are framed with those that are held.
-abbrev Goes : ℕ → List ℕ → List ℕ → Type 0
+abbrev pub Goes : ℕ → List ℕ → List ℕ → Type 0
 Goes place octets more =
     (((framed place octets).stream ≡ Lost) × (framed place (octets ++ more) ≡ framed place octets))
     ⊎ (((framed place octets).stream ≡ Reading (rest_in octets) (place + length (concat (packets_in octets)))) × ((framed place octets).lost_at ≡ None)
     × ((framed place octets).packets ≡ packets_in octets)
     × (framed place (octets ++ more) ≡ before_packets (packets_in octets) (framed (place + length (concat (packets_in octets))) (rest_in octets ++ more))))
 
-goes : (place : ℕ) (octets more : List ℕ) (front : Front) → front_of (rest_in octets) ≡ front → Goes place octets more
+pub goes : (place : ℕ) (octets more : List ℕ) (front : Front) → front_of (rest_in octets) ≡ front → Goes place octets more
 goes place octets more lost is = inl (ap (λ (f : Framed). f.stream) (framed_by place octets lost is), after_lost place octets more is)
 goes place octets more part is =
     let same = framed_by place octets part is in
@@ -85,7 +85,7 @@ unfolding act
 links_are platform body =
     ap (λ (outs : List OutRecord). record { after = (stream_act platform.stream body platform).after; out = outs }) (append-nil (stream_act platform.stream body platform).out)
 
-by_stream : (platform : Platform) (stream : LinkStream) (body : List ℕ) → platform.stream ≡ stream → act platform (links_record body) ≡ stream_act stream body platform
+pub by_stream : (platform : Platform) (stream : LinkStream) (body : List ℕ) → platform.stream ≡ stream → act platform (links_record body) ≡ stream_act stream body platform
 by_stream platform stream body is = links_are platform body ∙ ap (λ (s : LinkStream). stream_act s body platform) is
 
 -- packets of two records act as those of one

@@ -35,10 +35,10 @@ record Acts (roster : RosterOf) (state : FeedState) (start : ℕ) (octets left :
   ends : EndsFrom roster (state_after state items) start items rest left end
 
 -- after a record that isn't Z
-end_behind : (state : FeedState) (item : FeedRecord) (items : List FeedRecord) (left : List ℕ) (fault : Option FeedWhy) → is_finish item.kind ≡ false
+end_later : (state : FeedState) (item : FeedRecord) (items : List FeedRecord) (left : List ℕ) (fault : Option FeedWhy) → is_finish item.kind ≡ false
     → EndBy state (item ∷ items) left fault → EndBy (after state item) items left fault
-end_behind state item items left (Some why) other end = (end.0.1, end.1)
-end_behind state item items left None other end = elim (end_at_first item items end.before end.last end.whole end.finish end.others) [
+end_later state item items left (Some why) other end = (end.0.1, end.1)
+end_later state item items left None other end = elim (end_at_first item items end.before end.last end.whole end.finish end.others) [
   | inl (none, finish) ↦ absurd (both_ways (is_finish item.kind) other finish)
   | inr (still, later) ↦ later
 ]
@@ -81,16 +81,16 @@ module _ (roster : RosterOf) (left : List ℕ) (fault : Option FeedWhy) where
   -- the roster makes this record a faulty one
   acts_faulty : (state : FeedState) (start : ℕ) (item : FeedRecord) (items : List FeedRecord) (why : FeedWhy) → IsRecord item → fault_of state item ≡ None → roster_fault roster item ≡ Some why
       → ActsOn state start (item ∷ items)
-  acts_faulty state start item items why form lawful faulty =
+  acts_faulty state start item items why form faultless faulty =
       let more = flat_map record_octets items ++ left in
       let in_front : front state (flat_map record_octets (item ∷ items) ++ left) ≡ Ok (item, more) =
-      ap (front state) (append_assoc (record_octets item) (flat_map record_octets items) left) ∙ front_again state item more form lawful in
+      ap (front state) (append_assoc (record_octets item) (flat_map record_octets items) left) ∙ front_again state item more form faultless in
       acts_found state start item items (Some why) faulty
       (record { rest = flat_map record_octets (item ∷ items) ++ left; whole = refl; each = tt; known = tt; ends = (tt, omega arith, ap (fault_at roster) in_front ∙ faulty) })
 
   acts_more : (state : FeedState) (start : ℕ) (item : FeedRecord) (items : List FeedRecord) → IsRecord item → fault_of state item ≡ None → roster_fault roster item ≡ None → is_finish item.kind ≡ false
       → ActsOn (after state item) (start + 1) items → ActsOn state start (item ∷ items)
-  acts_more state start item items form lawful known other later =
+  acts_more state start item items form faultless known other later =
       let read = read_of f items in
       acts_found state start item items None known (record {
         rest = later.rest;
@@ -98,7 +98,7 @@ module _ (roster : RosterOf) (left : List ℕ) (fault : Option FeedWhy) where
             append_assoc (record_octets item) (flat_map record_octets items) left
             ∙ ap (λ (xs : List ℕ). record_octets item ++ xs) later.whole
             ∙ sym (append_assoc (record_octets item) (flat_map record_octets read) later.rest);
-        each = (form, lawful, later.each);
+        each = (form, faultless, later.each);
         known = (known, later.known);
         ends = ends_more roster (state_after (after state item) read) start item read later.rest left (end_of f (start + 1) items fault) other later.ends;
       })
@@ -106,11 +106,11 @@ module _ (roster : RosterOf) (left : List ℕ) (fault : Option FeedWhy) where
 -- the last record is Z
 acts_last : (roster : RosterOf) (state : FeedState) (start : ℕ) (item : FeedRecord) (left : List ℕ) → IsRecord item → fault_of state item ≡ None → roster_fault roster item ≡ None → is_finish item.kind ≡ true
     → ActsOn roster left None state start (item ∷ [])
-acts_last roster state start item left form lawful known finish =
+acts_last roster state start item left form faultless known finish =
     acts_found roster left None state start item [] None known (record {
       rest = left;
       whole = refl;
-      each = (form, lawful, tt);
+      each = (form, faultless, tt);
       known = (known, tt);
       ends = (record { before = []; last = item; whole = refl; finish = finish; others = tt }, refl);
     })
@@ -131,7 +131,7 @@ acts_by : (roster : RosterOf) (item : FeedRecord) (items : List FeedRecord) (sta
 acts_by roster item items state start left fault each end (Some why) is later = acts_faulty roster left fault state start item items why each.0 each.1 is
 acts_by roster item items state start left fault each end None is later =
     elim (cases_Bool (is_finish item.kind)) [
-      | inr other ↦ acts_more roster left fault state start item items each.0 each.1 is other (later (end_behind state item items left fault other end))
+      | inr other ↦ acts_more roster left fault state start item items each.0 each.1 is other (later (end_later state item items left fault other end))
       | inl finish ↦ acts_finish roster item items state start left fault each end is finish
     ]
 
@@ -152,9 +152,9 @@ no_finish k e = refl
 
 -- the first record of a feed has the roster
 first_is_roster : (item : FeedRecord) → fault_of before_feeds item ≡ None → is_finish item.kind ≡ false
-first_is_roster item lawful =
+first_is_roster item faultless =
     let len = length item.body in
-    let header = (lawful_parts before_feeds item lawful).header in
+    let header = (lawful_parts before_feeds item faultless).header in
     no_finish item.kind (passes_first (not false && not (is_roster item.kind)) why.NoRoster ((false && is_roster item.kind, why.Twice) ∷ (ltb 65536 len || not (has_length item.kind len), why.Length) ∷ []) header).0
 
 ends_with : (roster : RosterOf) (state : FeedState) (items : List FeedRecord) (rest left : List ℕ) (end : FeedEnd) → EndsFrom roster state 2 items rest left end → EndsWith roster state items rest left end
@@ -174,7 +174,7 @@ module _ (octets : List ℕ) (first : FeedRecord) (items : List FeedRecord) (sta
   by_roster (Err fault) is = (refl, (first, flat_map record_octets items ++ left, refl, ap (front before_feeds) parts ∙ front_again before_feeds first (flat_map record_octets items ++ left) each.0 each.1, is))
   by_roster (Ok roster) is =
       let other = first_is_roster first each.1 in
-      let found = acts roster items (after before_feeds first) 2 left fault each.2 (end_behind before_feeds first items left fault other end) in
+      let found = acts roster items (after before_feeds first) 2 left fault each.2 (end_later before_feeds first items left fault other end) in
       let read = read_of (roster_fault roster) items in
       record {
         first = first;

@@ -34,10 +34,10 @@ record Passes (state : FeedState) (octets : List ℕ) : Type 0 where
 passes : (state : FeedState) (octets : List ℕ) → fault_in_front state octets ≡ None → Passes state octets
 unfolding fault_in_front
 passes state octets e =
-    let behind : List (Bool × FeedWhy) = (ltb (length octets) (frame_size octets), why.Truncated) ∷ body_checks state (record_in octets) in
-    let one = passes_first (leb (2 ^ 40) state.octets) why.TooLong ((ltb (length octets) 9, why.Truncated) ∷ frame_checks state octets ++ behind) e in
-    let two = passes_first (ltb (length octets) 9) why.Truncated (frame_checks state octets ++ behind) one.1 in
-    let parts = both_pass (frame_checks state octets) behind two.1 in
+    let others : List (Bool × FeedWhy) = (ltb (length octets) (frame_size octets), why.Truncated) ∷ body_checks state (record_in octets) in
+    let one = passes_first (leb (2 ^ 40) state.octets) why.TooLong ((ltb (length octets) 9, why.Truncated) ∷ frame_checks state octets ++ others) e in
+    let two = passes_first (ltb (length octets) 9) why.Truncated (frame_checks state octets ++ others) one.1 in
+    let parts = both_pass (frame_checks state octets) others two.1 in
     let three = passes_first (ltb (length octets) (frame_size octets)) why.Truncated (body_checks state (record_in octets)) parts.1 in
     record { few = leb-false _ _ one.0; header = ltb-false _ _ two.0; frame = parts.0; whole = ltb-false _ _ three.0; body = three.1 }
 
@@ -103,8 +103,8 @@ module _ (state : FeedState) (octets : List ℕ) (all : AreOctets octets) (p : P
       (ap (λ (r : FeedRecord). r.source) (sym item_is))
       (body_length ∙ sym same_length)
 
-  behind : drop (length_at octets) (drop 9 octets) ≡ drop (frame_size octets) octets
-  behind = drop-drop (length_at octets) 9 octets ∙ ap (λ (n : ℕ). drop n octets) (sym size)
+  rest_after : drop (length_at octets) (drop 9 octets) ≡ drop (frame_size octets) octets
+  rest_after = drop-drop (length_at octets) 9 octets ∙ ap (λ (n : ℕ). drop n octets) (sym size)
 
   taken : Taken state octets (record_in octets) (drop (frame_size octets) octets)
   taken = record {
@@ -118,7 +118,7 @@ module _ (state : FeedState) (octets : List ℕ) (all : AreOctets octets) (p : P
         sym parts
         ∙ ap (λ (xs : List ℕ). xs ++ (take (length_at octets) (drop 9 octets) ++ drop (length_at octets) (drop 9 octets))) header_of
         ∙ sym (append_assoc (header_octets (record_in octets)) (take (length_at octets) (drop 9 octets)) (drop (length_at octets) (drop 9 octets)))
-        ∙ ap (λ (xs : List ℕ). record_octets (record_in octets) ++ xs) behind;
+        ∙ ap (λ (xs : List ℕ). record_octets (record_in octets) ++ xs) rest_after;
   }
 
 -- ---- one record more

@@ -1,4 +1,4 @@
--- What octets do to a session, whatever they are: it keeps its seat, tells nothing before it has one, and claims one at most.
+-- What octets do to a session, whatever they are: it keeps its seat, gives no event before it has one, and claims one at most.
 use Rattle.std.proofs.Common.{◌≡◌, ℕ, Bool, true, false, cond, inl, inr, List, [], ◌∷◌, ◌++◌, drop, Option, Some, None, refl, sym, ap, ◌∙◌, subst, eqb}
 use Rattle.std.specs.Prelude.{unwrap_or}
 use Rattle.std.proofs.lemmas.Bool.{cases_Bool, cond_both, both_ways}
@@ -15,7 +15,7 @@ use Rattle.rcp_model.proofs.SessionLemmas.{later_of-none, then-nothing, answer-o
 pub record Stays (phase : Phase) (does : Doing) (next : Phase) : Type 0 where
   pub ends : is_closed next ≡ false → does.closed ≡ None
   pub seat : is_closed next ≡ false → seat_of next ≡ seat_of phase
-  pub untold : is_closed next ≡ false → seat_of phase ≡ None → does.events ≡ []
+  pub eventless : is_closed next ≡ false → seat_of phase ≡ None → does.events ≡ []
   pub claim : (slot : ℕ) → does.claim ≡ Some slot → (since : ℕ) × (terms : Negotiated) × (next ≡ Claiming since slot terms)
 
 abbrev StaysBy : Phase → Step → Type 0
@@ -40,28 +40,28 @@ stays-ended : (phase : Phase) (sent : List (List ℕ)) (end : Ending) → Stays 
 stays-ended phase sent end = record {
   ends = λ still. absurd cc;
   seat = λ still. absurd cc;
-  untold = λ still none. refl;
+  eventless = λ still none. refl;
   claim = λ slot e. absurd (none_some e);
 }
 
 stays-failed : (phase : Phase) (why : FaultOf) → StaysBy phase (failed why)
 stays-failed phase why = stays-ended phase _ _
 
--- the seat stays, and nothing is told
+-- the seat stays, and there is no event
 stays-still : (phase next : Phase) → seat_of next ≡ seat_of phase → Stays phase nothing next
 stays-still phase next seat = record {
   ends = λ still. refl;
   seat = λ still. seat;
-  untold = λ still none. refl;
+  eventless = λ still none. refl;
   claim = λ slot e. absurd (none_some e);
 }
 
--- events are told where there is a seat
-stays-telling : (phase next : Phase) (slot : ℕ) (events : List SessionEvent) → seat_of phase ≡ Some slot → seat_of next ≡ Some slot → Stays phase (telling events) next
-stays-telling phase next slot events was is = record {
+-- there are events where there is a seat
+stays-eventful : (phase next : Phase) (slot : ℕ) (events : List SessionEvent) → seat_of phase ≡ Some slot → seat_of next ≡ Some slot → Stays phase (telling events) next
+stays-eventful phase next slot events was is = record {
   ends = λ still. refl;
   seat = λ still. is ∙ sym was;
-  untold = λ still none. absurd (some_none (sym was ∙ none));
+  eventless = λ still none. absurd (some_none (sym was ∙ none));
   claim = λ slot e. absurd (none_some e);
 }
 
@@ -74,9 +74,9 @@ stays-then : (phase middle next : Phase) (first second : Doing) → reads middle
 stays-then phase middle next first second r before after = record {
   ends = λ still. ap (λ (end : Option Ending). later_of end second.closed) (before.ends (reads-open middle r)) ∙ later_of-none second.closed ∙ after.ends still;
   seat = λ still. after.seat still ∙ before.seat (reads-open middle r);
-  untold = λ still none.
-      let quiet : first.events ≡ [] = before.untold (reads-open middle r) none in
-      let later : second.events ≡ [] = after.untold still (before.seat (reads-open middle r) ∙ none) in
+  eventless = λ still none.
+      let quiet : first.events ≡ [] = before.eventless (reads-open middle r) none in
+      let later : second.events ≡ [] = after.eventless still (before.seat (reads-open middle r) ∙ none) in
       rw (quiet, later) refl;
   claim = λ slot e. after.claim slot (sym (later_of-none second.claim) ∙ ap (λ (found : Option ℕ). later_of found second.claim) (sym (unclaimed first.claim refl)) ∙ e);
 } where
@@ -95,14 +95,14 @@ module _ (roster : RosterOf) (now : ℕ) where
   stays-opened since body None is = rw (is, opened) record {
     ends = λ still. refl;
     seat = λ still. refl;
-    untold = λ still none. refl;
+    eventless = λ still none. refl;
     claim = λ slot e. (since, negotiated roster body, ap (λ (found : Option ℕ). Claiming since (unwrap_or found 0) (negotiated roster body)) e);
   }
 
   stays-updated : (peering : Peering) (body : List ℕ) (found : Option FaultOf) → update_fault number_width body ≡ found → StaysBy (Established peering) (updated roster (read_at now peering) body)
   stays-updated peering body (Some why) is = rw (is, updated) (stays-failed (Established peering) why)
   stays-updated peering body None is =
-      rw (is, updated) (stays-telling (Established peering) (Established (read_at now peering)) peering.slot (changes_events roster.as_number (changes_of body)) refl refl)
+      rw (is, updated) (stays-eventful (Established peering) (Established (read_at now peering)) peering.slot (changes_events roster.as_number (changes_of body)) refl refl)
 
   -- a NOTIFICATION, or a message that the phase doesn't take
   stays-otherwise : (phase : Phase) (message : List ℕ) → StaysBy phase (cond (eqb (type_field message) 3) (notified (drop 19 message)) refused)
@@ -116,7 +116,7 @@ module _ (roster : RosterOf) (now : ℕ) where
       (stays-opened since (drop 19 message) (opening_fault roster (drop 19 message)) refl) (stays-otherwise (OpenSent since) message)
   stays-handled message (OpenConfirm peering) r =
       either (OpenConfirm peering) (eqb (type_field message) 4) (step (Established (read_at now peering)) (telling (Up ∷ []))) (cond (eqb (type_field message) 3) (notified (drop 19 message)) refused)
-      (stays-telling (OpenConfirm peering) (Established (read_at now peering)) peering.slot (Up ∷ []) refl refl)
+      (stays-eventful (OpenConfirm peering) (Established (read_at now peering)) peering.slot (Up ∷ []) refl refl)
       (stays-otherwise (OpenConfirm peering) message)
   stays-handled message (Established peering) r =
       let other = cond (eqb (type_field message) 3) (notified (drop 19 message)) refused in

@@ -50,7 +50,7 @@ events_join (Some slot) first second going =
     ∙ append_assoc (map (server_event slot) first.events) (map (server_event slot) second.events) (end_events slot second.closed)
     ∙ ap (λ (es : List ServerEvent). es ++ seat_events (Some slot) second) (sym (append-nil (map (server_event slot) first.events)) ∙ ap (λ (es : List ServerEvent). map (server_event slot) first.events ++ es) (sym plain))
 
--- where nothing was told before, the seat is of no account for it
+-- where there was no event before, the seat is of no account for it
 events_later : (seat : Option ℕ) (first second : Doing) → first.closed ≡ None → first.events ≡ [] → seat_events seat (then_also first second) ≡ seat_events None first ++ seat_events seat second
 events_later None first second going quiet = refl
 events_later (Some slot) first second going quiet =
@@ -72,13 +72,13 @@ same_free (e ∷ es) number slot session after is seat =
           rw (t, seat, same) refl
       | inr f ↦
           let later : is_free (put_at same_number number after es) slot ≡ is_free es slot = same_free es number slot session after (rw f at is) seat in
-          rw (f) (free_behind (is_slot slot (seat_of e.1.phase)) (list_any (λ (entry : ℕ × SessionState). is_slot slot (seat_of entry.1.phase)) (put_at same_number number after es))
+          rw (f) (free_later (is_slot slot (seat_of e.1.phase)) (list_any (λ (entry : ℕ × SessionState). is_slot slot (seat_of entry.1.phase)) (put_at same_number number after es))
           (list_any (λ (entry : ℕ × SessionState). is_slot slot (seat_of entry.1.phase)) es) later)
     ]
   where
-    free_behind : (a b c : Bool) → not b ≡ not c → not (a || b) ≡ not (a || c)
-    free_behind true b c e = refl
-    free_behind false b c e = e
+    free_later : (a b c : Bool) → not b ≡ not c → not (a || b) ≡ not (a || c)
+    free_later true b c e = refl
+    free_later false b c e = e
 
 -- ---- one session
 
@@ -244,8 +244,8 @@ module _ (platform : Platform) (number : ℕ) (session : SessionState) (piece mo
             let still : is_closed second.after.phase ≡ false = ap is_closed made.2 in
             sym (sym (ap seat_of made.2) ∙ stays.seat still ∙ same_seat)
 
-        untold : first.does.events ≡ []
-        untold = (stays-octets platform.roster piece platform.moment session open_).untold going no_seat
+        eventless : first.does.events ≡ []
+        eventless = (stays-octets platform.roster piece platform.moment session open_).eventless going no_seat
 
         as_free : is_free (set_at same_number number (if_open first.after) platform.connections) slot ≡ is_free platform.connections slot
         as_free =
@@ -264,7 +264,7 @@ module _ (platform : Platform) (number : ℕ) (session : SessionState) (piece mo
               does = assoc;
               events =
                   ap (seat_events (cond free (Some slot) None)) assoc
-                  ∙ events_later (cond free (Some slot) None) first.does (then_also second.does third.does) unended untold
+                  ∙ events_later (cond free (Some slot) None) first.does (then_also second.does third.does) unended eventless
                   ∙ ap (λ (s : Option ℕ). seat_events s first.does ++ seat_events (cond free (Some slot) None) (then_also second.does third.does)) (sym no_seat);
             }
 

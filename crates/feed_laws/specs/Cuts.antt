@@ -8,6 +8,10 @@ use Rattle.feed_meaning.specs.Runs.{platform_after, all_output}
 abbrev pub octets_record : ℕ → List ℕ → FeedRecord
 octets_record number body = record { kind = kind.Octets; source = number; body = body }
 
+-- the end of a connection
+abbrev pub end_record : ℕ → List ℕ → FeedRecord
+end_record number body = record { kind = kind.Closed; source = number; body = body }
+
 abbrev pub links_record : List ℕ → FeedRecord
 links_record body = record { kind = kind.Links; source = 0; body = body }
 

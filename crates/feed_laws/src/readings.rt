@@ -19,7 +19,7 @@ pub fn no_second_feed()
 {}
 
 /// What octets come to as a feed: the first record has the text of the roster, and the records after it are acted on up to
-/// Z, or up to the first one with a fault, of its frame or by the roster. The fault is told with the number of its record,
+/// Z, or up to the first one with a fault, of its frame or by the roster. The fault has the number of its record,
 /// from 1 on; where the roster's text has one, with its line.
 pub fn a_feed_is_its_roster_and_what_follows()
     ensures { (octets : List ℕ) → AreOctets octets → IsMeaningOf octets (feed_meaning octets) (feed_meaning octets).roster }
