@@ -4,7 +4,7 @@ use Rattle.std.proofs.lemmas.List.Kept.{AllPairs-filter}
 use Rattle.rcp_model.proofs.WalkLemmas.{Walk-then, Walk-edge, IsCost-unique, IsCost-from_settled, cost_is, cost-itself}
 use Rattle.rcp_model.proofs.MemberLemmas.{filter_member, member_of_filter}
 use Rattle.rcp_model.proofs.GraphLemmas.{same-edge, same-itself, include-member, member_of_include, rising-include, rising-same, graph-exclude}
-use Rattle.rcp_model.specs.declared.event.Edge.{Edge}
+use Rattle.rcp_base.specs.declared.names.Edge.{Edge}
 use Rattle.rcp_model.specs.Edges.{same_edge, is_edge_before, include_edge}
 use Rattle.rcp_model.specs.Graphs.{IsGraph, exclude_edge}
 use Rattle.rcp_model.specs.Costs.{Walk, stay, step, IsCost, lesser, joined, cost}

@@ -4,7 +4,7 @@ use Rattle.std.specs.List.Sorted.{IsStrictlyIncreasing}
 use Rattle.std.proofs.lemmas.List.Kept.{AllPairs-from_increasing}
 use Rattle.rcp_base.specs.declared.names.Member.{Member}
 use Rattle.rcp_model.proofs.MemberLemmas.{Contains-none}
-use Rattle.rcp_model.specs.declared.event.Edge.{Edge}
+use Rattle.rcp_base.specs.declared.names.Edge.{Edge}
 use Rattle.rcp_model.specs.RouteServer.{router_at}
 use Rattle.cost_rows.specs.Engines.{AreChanges}
 use Rattle.cost_rows.specs.Search.{AreNames, IsFound}

@@ -12,7 +12,7 @@ use Rattle.cost_rows.specs.Engines.{graph_before, AreChanges}
 use Rattle.spf_incr.specs.Changes.{IsWith}
 use Rattle.spf_incr.proofs.EdgeLemmas.{with_included, with_excluded}
 use Rattle.rcp_base.specs.declared.names.Member.{Member}
-use Rattle.rcp_model.specs.declared.event.Edge.{Edge}
+use Rattle.rcp_base.specs.declared.names.Edge.{Edge}
 use Rattle.rcp_model.specs.RouteServer.{router_at, cost_between}
 use Rattle.cost_rows.specs.Engines.{cost_from}
 use Rattle.cost_rows.specs.Search.{AreNames, IsFound, found_at}

@@ -4,7 +4,7 @@ ghost use Rattle.std.specs.Prelude.{◌≡◌, ℕ, ◌≤◌, ◌↔◌, true, 
 ghost use Rattle.std.specs.List.Sorted.{IsStrictlyIncreasing};
 ghost use Rattle.std.specs.Bool.{OnTrue, OnFalse};
 ghost use Rattle.rcp_base.specs.declared.names.Member.{Member};
-ghost use Rattle.rcp_model.specs.declared.event.Edge.{Edge};
+ghost use Rattle.rcp_base.specs.declared.names.Edge.{Edge};
 ghost use Rattle.rcp_model.specs.RouteServer.{router_at};
 ghost use Rattle.rcp_model.specs.Graphs.{AreMembers, IsGraph};
 ghost use Rattle.cost_rows.specs.Search.{AreNames, AreIndexed, IsFound, found_at};
