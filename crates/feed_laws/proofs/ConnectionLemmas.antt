@@ -45,17 +45,16 @@ set_put n first (Some second) es = put_put n first second es
 
 -- ---- one record
 
-claim_number : (platform : Platform) (number : ℕ) (seat : Option ℕ) (first : Answer) (claim : Option ℕ) → (claim_turn platform number seat first claim).number ≡ number
+pub claim_number : (platform : Platform) (number : ℕ) (seat : Option ℕ) (first : Answer) (claim : Option ℕ) → (claim_turn platform number seat first claim).number ≡ number
 claim_number platform number seat first None = refl
 claim_number platform number seat first (Some slot) = refl
 
 -- the connection of a number, as it is found
-found : ℕ → Option SessionState → Connections
+abbrev pub found : ℕ → Option SessionState → Connections
 found n None = []
 found n (Some s) = (n, s) ∷ []
 
-connection_found : (es : Connections) (n : ℕ) (o : Option SessionState) → get_at same_number n es ≡ o → connection_at es n ≡ found n o
-unfolding found
+pub connection_found : (es : Connections) (n : ℕ) (o : Option SessionState) → get_at same_number n es ≡ o → connection_at es n ≡ found n o
 connection_found es n o is = subst (λ (o : Option SessionState). connection_at es n ≡ found n o) is (at (get_at same_number n es)) where
   at : (o : Option SessionState) → elim o [ None ↦ [] | Some s ↦ (n, s) ∷ [] ] ≡ found n o
   at None = refl
@@ -76,12 +75,11 @@ module _ (platform : Platform) (number : ℕ) (body : List ℕ) where
   by_found o is = by_act ∙ ap (λ (es : Connections). by_turns (map (octets_turn platform body) es)) (connection_found platform.connections number o is)
 
   pub no_connection : get_at same_number number platform.connections ≡ None → act platform (octets_record number body) ≡ nothing_done platform
-  unfolding found
   no_connection none = by_found None none
 
   -- the end of a connection that isn't there
   pub no_end : get_at same_number number platform.connections ≡ None → act platform (end_of_connection number body) ≡ nothing_done platform
-  unfolding act found
+  unfolding act
   no_end none =
       ap (λ (es : Connections). record { after = after_turns (map (simple_turn platform.roster End) es) platform; out = (flat_map turn_output (map (simple_turn platform.roster End) es) ++ []) ++ [] })
       (connection_found platform.connections number None none)
@@ -91,7 +89,6 @@ module _ (platform : Platform) (number : ℕ) (body : List ℕ) where
 
   a_connection : (session : SessionState) → get_at same_number number platform.connections ≡ Some session
       → act platform (octets_record number body) ≡ by_turn (octets_turn platform body (number, session))
-  unfolding found
   a_connection session some =
       let one = octets_turn platform body (number, session) in
       by_found (Some session) some

@@ -10,3 +10,5 @@ pub mod LineLemmas
 pub mod RosterTextLemmas
 pub mod RosterFormLemmas
 pub mod FeedLemmas
+pub mod OrderLemmas
+pub mod OutputLemmas

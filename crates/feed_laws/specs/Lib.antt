@@ -2,3 +2,4 @@ pub mod FeedReading
 pub mod Cuts
 pub mod WholeReading
 pub mod RosterTexts
+pub mod Order

@@ -8,7 +8,8 @@
 //!   is no fault; and what octets come to as a feed, by the roster of the first record;
 //! - `cuts`: it makes no difference how octets that come at one time are cut into records, on a connection or in the stream of
 //!   link state, but for the pending prefixes in the latter;
-//! - `runs`: the headline for every feed, without further premises; records of no open connection;
+//! - `runs`: the headline for every feed, without further premises; records of no open connection; the order of
+//!   connections and of what is put out;
 //! - `rosters`: each roster has one canonical text, which is read as that roster.
 //!
 //! ```text

@@ -1,13 +1,17 @@
 //! What records come to within a feed.
 
-ghost use Rattle.std.specs.Prelude.{◌≡◌, ℕ, List, take, Some, None};
+ghost use Rattle.std.specs.Prelude.{◌≡◌, ℕ, ◌<◌, List, AllPairs, take, Some, None};
 ghost use Rattle.rcp_base.specs.Octets.{AreOctets};
+ghost use Rattle.rcp_base.specs.Feed.{FeedRecord};
 ghost use Rattle.rcp_base.specs.Maps.{get_at};
 ghost use Rattle.rcp_base.specs.Roster.{RosterOf};
 ghost use Rattle.rcp_model.specs.LinkState.{same_number};
-ghost use Rattle.feed_meaning.specs.Platform.{Platform, nothing_done};
-ghost use Rattle.feed_meaning.specs.Runs.{act, Headline};
+ghost use Rattle.rcp_model.specs.Sessions.{SessionState};
+ghost use Rattle.feed_meaning.specs.Platform.{Platform, fresh, nothing_done};
+ghost use Rattle.feed_meaning.specs.Runs.{act, platform_after, NumbersRise, Headline};
 ghost use Rattle.feed_meaning.specs.WholeFeeds.{feed_meaning};
+ghost use Rattle.rcp_base.specs.declared.kinds.Kind.TheVariants as kind;
+ghost use Rattle.feed_laws.specs.Order.{StandByConnection, StandBeforeLast};
 ghost use Rattle.feed_laws.specs.Cuts.{octets_record, end_record};
 
 /// For all octets, after each of the records that are acted on: for each connected router and each prefix that isn't
@@ -23,4 +27,22 @@ pub fn records_of_no_connection_change_nothing()
         → act platform (octets_record number body) ≡ nothing_done platform }
     ensures end { (platform : Platform) (number : ℕ) (body : List ℕ) → get_at same_number number platform.connections ≡ None
         → act platform (end_record number body) ≡ nothing_done platform }
+{}
+
+/// After every list of records in which the numbers of connections rise, the open connections stand by rising number, each
+/// once.
+pub fn connections_stand_by_rising_number()
+    ensures { (roster : RosterOf) (items : List FeedRecord) → NumbersRise 0 items
+        → AllPairs (λ (a b : ℕ × SessionState). a.0 < b.0) (platform_after (fresh roster) items).connections }
+{}
+
+/// What a time or a slice puts out then stands by rising number of its connections, and so does all but the summary of what
+/// a drain puts out.
+pub fn output_stands_by_rising_number()
+    ensures time { (roster : RosterOf) (items : List FeedRecord) → NumbersRise 0 items → (source : ℕ) (body : List ℕ)
+        → StandByConnection (act (platform_after (fresh roster) items) (record { kind = kind.Time; source = source; body = body })).out }
+    ensures slice { (roster : RosterOf) (items : List FeedRecord) → NumbersRise 0 items → (source : ℕ) (body : List ℕ)
+        → StandByConnection (act (platform_after (fresh roster) items) (record { kind = kind.Slice; source = source; body = body })).out }
+    ensures drain { (roster : RosterOf) (items : List FeedRecord) → NumbersRise 0 items → (source : ℕ) (body : List ℕ)
+        → StandBeforeLast (act (platform_after (fresh roster) items) (record { kind = kind.Drain; source = source; body = body })).out }
 {}
