@@ -5,7 +5,7 @@ use Rattle.std.specs.BTreeSet.{BTreeSet}
 use Rattle.std.specs.Int.{w16}
 use Rattle.bgp_fault.specs.Faults.{IsWithin}
 use Rattle.bgp_msg.specs.Written.{data_length}
-use Rattle.bgp_msg.specs.Faults.{fault_in}
+use Rattle.path_attrs.specs.Refusals.{fault_in}
 use Rattle.rcp_model.specs.Messages.{FaultOf}
 use Rattle.rcp_model.specs.Attributes.{Attribute, attributes_in}
 use Rattle.rcp_model.specs.Routes.{route_of}
