@@ -13,7 +13,11 @@ const NAMES: [(u8, u8, &str); 22] = [
     (2, 4, "OPEN Message Error: Unsupported Optional Parameter"),
     (2, 6, "OPEN Message Error: Unacceptable Hold Time"),
     (3, 1, "UPDATE Message Error: Malformed Attribute List"),
-    (3, 2, "UPDATE Message Error: Unrecognized Well-known Attribute"),
+    (
+        3,
+        2,
+        "UPDATE Message Error: Unrecognized Well-known Attribute",
+    ),
     (3, 3, "UPDATE Message Error: Missing Well-known Attribute"),
     (3, 4, "UPDATE Message Error: Attribute Flags Error"),
     (3, 5, "UPDATE Message Error: Attribute Length Error"),

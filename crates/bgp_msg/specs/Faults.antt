@@ -1,14 +1,8 @@
--- Faults as a NOTIFICATION names them, and those that this crate finds by itself.
-use Rattle.std.specs.Prelude.{ℕ, List}
+-- The faults that this crate finds by itself.
+use Rattle.std.specs.Prelude.{ℕ}
 use Rattle.bgp_fault.specs.declared.Data.{Data}
 use Rattle.bgp_fault.specs.declared.Fault.{Fault}
 use Rattle.bgp_fault.specs.declared.Data.TheVariants as extra
-use Rattle.bgp_fault.specs.Faults.{data_octets}
-use Rattle.rcp_model.specs.Messages.{FaultOf}
-
--- a fault whose span names octets of `body`
-abbrev pub fault_in : List ℕ → Fault → FaultOf
-fault_in body fault = record { code = fault.code; sub = fault.sub; content = data_octets body fault.extra }
 
 -- a fault that no octets go with
 abbrev pub bare : ℕ → ℕ → Fault

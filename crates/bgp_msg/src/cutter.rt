@@ -2,9 +2,8 @@
 
 ghost use Rattle.std.specs.Prelude.{◌≡◌, ◌+◌, ◌-◌, ◌≤◌, ◌++◌, [], Some, false, length, take, min, IfOk, IfSome, MatchOption, MatchResult};
 ghost use Rattle.std.specs.Borrow.{sem};
-ghost use Rattle.rcp_model.specs.Messages.{message_size, message_octets};
-ghost use Rattle.bgp_msg.specs.Faults.{fault_in};
-ghost use Rattle.bgp_fault.specs.Faults.{IsWithin};
+ghost use Rattle.rcp_model.specs.Messages.{fault, message_size, message_octets};
+ghost use Rattle.bgp_fault.specs.Faults.{data_octets, IsWithin};
 ghost use Rattle.rcp_model.specs.Sessions.{fault_in_front};
 ghost use Rattle.bgp_msg.specs.Cutting.{is_waiting};
 ghost use Rattle.bgp_msg.specs.HeaderFields.{IsLengthOf};
@@ -74,7 +73,7 @@ impl Cutter {
             (λ found. MatchOption found
             (is_waiting self.old ≡ false)
             (λ m. (message_size self.old ≡ Some (length self.old)) × (self.old ≡ message_octets m.kind m.body.now)))
-            (λ fault. (fault_in_front self.old ≡ Some (fault_in [] fault)) × IsWithin [] fault.extra) }
+            (λ why. (fault_in_front self.old ≡ Some (fault why.code why.sub (data_octets [] why.extra))) × IsWithin [] why.extra) }
         ensures lengths { IfOk result (λ found. IfSome found (λ m. IsLengthOf m.kind (19 + length m.body.now))) }
         ensures* after { sem 𝓛 (EndsAs self.entry) }
     {

@@ -1,11 +1,10 @@
 //! The message in front of a list of octets (RFC 4271 section 4.1): the one place where a stream is cut into messages.
 
 ghost use Rattle.std.specs.Prelude.{◌≡◌, ◌+◌, [], Some, None, length, IfOk, IfSome, MatchOption, MatchResult};
-ghost use Rattle.rcp_model.specs.Messages.{message_size};
+ghost use Rattle.rcp_model.specs.Messages.{fault, message_size};
 ghost use Rattle.rcp_model.specs.Sessions.{fault_in_front};
-ghost use Rattle.bgp_fault.specs.Faults.{IsWithin};
+ghost use Rattle.bgp_fault.specs.Faults.{data_octets, IsWithin};
 ghost use Rattle.bgp_msg.specs.Cutting.{IsInFront};
-ghost use Rattle.bgp_msg.specs.Faults.{fault_in};
 ghost use Rattle.bgp_msg.specs.HeaderFields.{IsLengthOf};
 
 use crate::header::{HEADER_LEN, read_header};
@@ -27,7 +26,7 @@ pub fn first_message(octets: &[u8]) -> Result<Option<Message<'_>>, Fault>
         (λ found. MatchOption found
         ((message_size octets.now ≡ None) × (fault_in_front octets.now ≡ None))
         (λ m. IsInFront octets.now m.kind m.body.now))
-        (λ fault. (message_size octets.now ≡ None) × (fault_in_front octets.now ≡ Some (fault_in [] fault)) × IsWithin [] fault.extra) }
+        (λ why. (message_size octets.now ≡ None) × (fault_in_front octets.now ≡ Some (fault why.code why.sub (data_octets [] why.extra))) × IsWithin [] why.extra) }
     ensures lengths { IfOk result (λ found. IfSome found (λ m. IsLengthOf m.kind (19 + length m.body.now))) }
 {
     if octets.len() < HEADER_LEN {

@@ -1,9 +1,9 @@
 //! The header of a message (RFC 4271 section 4.1), and its faults (section 6.1).
 
 ghost use Rattle.std.specs.Prelude.{◌≡◌, ◌≤◌, [], Some, None, length, OnOk, IfOk, IfErr};
-ghost use Rattle.rcp_model.specs.Messages.{header_fault, has_marker, is_outside, least_length, greatest_length};
-ghost use Rattle.bgp_fault.specs.Faults.{IsWithin};
-ghost use Rattle.bgp_msg.specs.Faults.{fault_in, header_error};
+ghost use Rattle.rcp_model.specs.Messages.{fault, header_fault, has_marker, is_outside, least_length, greatest_length};
+ghost use Rattle.bgp_fault.specs.Faults.{data_octets, IsWithin};
+ghost use Rattle.bgp_msg.specs.Faults.{header_error};
 ghost use Rattle.bgp_msg.specs.HeaderFields.{IsHeader, IsLengthOf};
 
 use bgp_fault::{
@@ -49,7 +49,7 @@ pub fn read_header(octets: &[u8]) -> Result<Header, Fault>
     ensures faultless { OnOk result (header_fault octets.now ≡ None) }
     ensures fields { IfOk result (λ header. IsHeader octets.now header.kind header.len) }
     ensures lengths { IfOk result (λ header. IsLengthOf header.kind header.len) }
-    ensures fault { IfErr result (λ fault. (header_fault octets.now ≡ Some (fault_in [] fault)) × IsWithin [] fault.extra) }
+    ensures fault { IfErr result (λ why. (header_fault octets.now ≡ Some (fault why.code why.sub (data_octets [] why.extra))) × IsWithin [] why.extra) }
 {
     if !has_marker(octets) {
         return Err(header_error(CONNECTION_NOT_SYNCHRONIZED, Data::None));

@@ -2,7 +2,6 @@
 
 ghost use Rattle.std.specs.Prelude.{◌≡◌, ◌+◌, ◌≤◌, ◌∷◌, ◌++◌, length, take};
 ghost use Rattle.bgp_fault.specs.Faults.{data_octets, IsWithin};
-ghost use Rattle.bgp_msg.specs.Faults.{fault_in};
 ghost use Rattle.bgp_msg.specs.Written.{data_length};
 ghost use Rattle.rcp_model.specs.Messages.{notification_octets};
 
@@ -44,7 +43,7 @@ pub fn write_notification(fault: &Fault, body: &[u8], out: &mut [u8; 4096]) -> u
     requires within { IsWithin body.now fault.now.extra }
     requires room { data_length fault.now.extra ≤ 4073 }
     ensures count { result ≡ 21 + data_length fault.now.extra }
-    ensures octets { take result out.new ≡ notification_octets (fault_in body.now fault.now) }
+    ensures octets { take result out.new ≡ notification_octets (record { code = fault.now.code; sub = fault.now.sub; content = data_octets body.now fault.now.extra }) }
 {
     let count = LEAST_NOTIFICATION + data_len(fault.extra);
     let at = put_header(out, NOTIFICATION, count as u16);

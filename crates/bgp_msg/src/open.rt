@@ -1,9 +1,9 @@
 //! OPEN messages (RFC 4271 section 4.2), and their faults (section 6.2).
 
 ghost use Rattle.std.specs.Prelude.{◌≡◌, ◌+◌, ◌<◌, ◌≤◌, [], Some, None, length, take, drop, slice_index, OnOk, IfErr, MatchOption, MatchResult, IfSome};
+ghost use Rattle.rcp_model.specs.Messages.{fault};
 ghost use Rattle.rcp_model.specs.Opens.{open_fields, open_octets, is_short_hold, parameter_size};
-ghost use Rattle.bgp_msg.specs.Faults.{fault_in};
-ghost use Rattle.bgp_fault.specs.Faults.{IsWithin};
+ghost use Rattle.bgp_fault.specs.Faults.{data_octets, IsWithin};
 ghost use Rattle.bgp_msg.specs.Opened.{fields_of, fault_but_identifier, parameters_fault, open_error};
 
 use crate::header::OPEN;
@@ -45,7 +45,7 @@ pub fn read_open(body: &[u8], local_as: u32) -> Result<OpenBody, Fault>
     requires { 10 ≤ length body.now }
     ensures { MatchResult result
         (λ offer. (fault_but_identifier local_as body.now ≡ None) × (fields_of offer ≡ open_fields body.now))
-        (λ fault. (fault_but_identifier local_as body.now ≡ Some (fault_in [] fault)) × IsWithin [] fault.extra) }
+        (λ why. (fault_but_identifier local_as body.now ≡ Some (fault why.code why.sub (data_octets [] why.extra))) × IsWithin [] why.extra) }
 {
     if body[0] != VERSION {
         let wanted = Data::Pair(u16::from(VERSION));
@@ -112,7 +112,7 @@ fn is_short_hold(hold: u16) -> bool
 fn check_parameters(parameters: &[u8]) -> Result<(), Fault>
     ensures { MatchResult result
         (λ _. parameters_fault parameters.now ≡ None)
-        (λ fault. (parameters_fault parameters.now ≡ Some (fault_in [] fault)) × IsWithin [] fault.extra) }
+        (λ why. (parameters_fault parameters.now ≡ Some (fault why.code why.sub (data_octets [] why.extra))) × IsWithin [] why.extra) }
 {
     let mut rest = parameters;
     while !rest.is_empty() {

@@ -3,8 +3,10 @@
 ghost use Rattle.std.specs.Prelude.{◌≡◌, ◌+◌, ◌<◌, ◌≤◌, ◌↔◌, ◌++◌, [], ◌∷◌, true, false, length, take, drop, Some, None, IsSome, IfSome, IfOk, SomeIff, MatchOption, MatchResult};
 ghost use Rattle.std.specs.List.{flat_map};
 ghost use Rattle.rcp_base.specs.IpPrefix.{prefix_octets};
+ghost use Rattle.rcp_model.specs.Messages.{fault};
 ghost use Rattle.rcp_model.specs.Updates.{update_octets, sections_of, section, after_section, has_section, prefixes_in, prefixes_fault};
-ghost use Rattle.bgp_msg.specs.Faults.{fault_in, malformed_sections, malformed_prefix};
+ghost use Rattle.bgp_fault.specs.Faults.{data_octets};
+ghost use Rattle.bgp_msg.specs.Faults.{malformed_sections, malformed_prefix};
 
 use crate::header::{MOST_OCTETS, UPDATE};
 use crate::put::{put, put_header};
@@ -50,7 +52,7 @@ pub fn read_update(body: &[u8]) -> Result<Update<'_>, Fault>
 pub fn check_prefixes(section: &[u8]) -> Result<(), Fault>
     ensures { MatchResult result
         (λ _. prefixes_fault section.now ≡ None)
-        (λ fault. (prefixes_fault section.now ≡ Some (fault_in section.now fault)) × (fault ≡ malformed_prefix)) }
+        (λ why. (prefixes_fault section.now ≡ Some (fault why.code why.sub (data_octets section.now why.extra))) × (why ≡ malformed_prefix)) }
 {
     let mut rest = section;
     while !rest.is_empty() {

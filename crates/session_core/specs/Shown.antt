@@ -12,6 +12,8 @@ use Rattle.session_core.specs.declared.state.Negotiated.{Negotiated as Terms}
 use Rattle.session_core.specs.declared.state.Peering.{Peering as Peered}
 use Rattle.session_core.specs.declared.state.State.{State}
 use Rattle.session_core.specs.declared.state.State.TheVariants as state
+use Rattle.session_core.specs.declared.state.Reading.{Reading}
+use Rattle.session_core.specs.declared.state.Reading.TheVariants as reading
 
 abbrev pub reason_of : Why → Reason
 reason_of why.Fault = Faulted
@@ -54,3 +56,8 @@ phase_of (state.Claiming claim) = Claiming claim.since claim.slot (terms_of clai
 phase_of (state.OpenConfirm peered) = OpenConfirm (peering_of peered)
 phase_of (state.Established peered) = Established (peering_of peered)
 phase_of state.Closed = Closed
+
+abbrev pub reading_phase : Reading → Phase
+reading_phase (reading.OpenSent since) = OpenSent since
+reading_phase (reading.OpenConfirm peered) = OpenConfirm (peering_of peered)
+reading_phase (reading.Established peered) = Established (peering_of peered)

@@ -4,7 +4,7 @@ use Rattle.std.specs.BTreeSet as tree_set
 use Rattle.std.specs.BTreeSet.{BTreeSet}
 use Rattle.bgp_fault.specs.Faults.{IsWithin}
 use Rattle.bgp_msg.specs.Written.{data_length}
-use Rattle.bgp_msg.specs.Faults.{fault_in}
+use Rattle.path_attrs.specs.Refusals.{fault_in}
 use Rattle.rcp_model.specs.Messages.{FaultOf}
 use Rattle.rcp_model.specs.Attributes.{Attribute, attributes_in, number_width}
 use Rattle.rcp_model.specs.Routes.{route_of}

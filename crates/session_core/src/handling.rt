@@ -6,14 +6,14 @@ ghost use Rattle.rcp_model.specs.Messages.{message_octets};
 ghost use Rattle.rcp_model.specs.Sessions.{handle, opened, updated, notified, refused};
 ghost use Rattle.session_core.specs.declared.table.Rule.TheVariants.{Take, Obey};
 ghost use Rattle.session_core.specs.Rules.{in_open_sent, in_open_confirm, in_established};
-ghost use Rattle.session_core.specs.Shown.{phase_of, peering_of};
+ghost use Rattle.session_core.specs.Shown.{reading_phase, peering_of};
 ghost use Rattle.session_core.specs.Steps.{Takes};
 
 use crate::actions::{Actions, Closed, Why};
 use crate::events::{tell_changes, tell_up};
 use crate::opening::read_peer_open;
 use crate::sending::close_by;
-use crate::state::{Claim, Negotiated, Peering, State};
+use crate::state::{Claim, Negotiated, Peering, Reading, State};
 use crate::table::{ESTABLISHED, OPEN_CONFIRM, OPEN_SENT, Rule, find_rule};
 use crate::update::{Unread, read_body};
 use bgp_fault::{Data, FINITE_STATE_MACHINE_ERROR, Fault, UNSPECIFIC};
@@ -22,25 +22,25 @@ use rcp_base::NoMemory;
 use roster::Roster;
 use std::alloc::Global;
 
-/// Handles a whole message in a state, and answers the next state.
+/// Handles a whole message in a state that reads messages, and answers the next state.
 pub fn handle(
     alloc: Global,
     roster: &Roster,
-    state: State,
+    reading: Reading,
     message: Message<'_>,
     now: u64,
     actions: &mut Actions,
 ) -> Result<State, NoMemory>
     requires { IsLengthOf message.kind (19 + length message.body.now) }
-    ensures { IfOk result (λ next. Takes (handle roster.now now (message_octets message.entry.kind message.entry.body.now) (phase_of state)) actions.old next actions.new) }
+    ensures { IfOk result (λ next. Takes (handle roster.now now (message_octets message.entry.kind message.entry.body.now) (reading_phase reading)) actions.old next actions.new) }
 {
     let Message { kind, body } = message;
-    match state {
-        State::OpenSent { since } => {
+    match reading {
+        Reading::OpenSent { since } => {
             let rule = find_rule(OPEN_SENT, kind);
             in_open_sent(alloc, roster, since, rule, body, actions)
         }
-        State::OpenConfirm(peering) => {
+        Reading::OpenConfirm(peering) => {
             let peering = Peering {
                 read: now,
                 ..peering
@@ -48,7 +48,7 @@ pub fn handle(
             let rule = find_rule(OPEN_CONFIRM, kind);
             in_open_confirm(alloc, peering, rule, body, actions)
         }
-        State::Established(peering) => {
+        Reading::Established(peering) => {
             let peering = Peering {
                 read: now,
                 ..peering
@@ -56,8 +56,6 @@ pub fn handle(
             let rule = find_rule(ESTABLISHED, kind);
             in_established(alloc, roster, peering, rule, body, actions)
         }
-        State::Claiming(_) => Ok(state),
-        State::Closed => Ok(state),
     }
 }
 

@@ -3,7 +3,7 @@
 ghost use Rattle.std.specs.Prelude.{◌≡◌, ◌≤◌, [], Some, None, length, min, MatchResult};
 ghost use Rattle.bgp_fault.specs.Faults.{IsWithin};
 ghost use Rattle.bgp_msg.specs.Opened.{fields_of, is_behind_identifier};
-ghost use Rattle.bgp_msg.specs.Faults.{fault_in};
+ghost use Rattle.path_attrs.specs.Refusals.{fault_in};
 ghost use Rattle.rcp_model.specs.Opens.{open_fields};
 ghost use Rattle.rcp_model.specs.Sessions.{slot_by_identifier, opening_fault};
 

@@ -36,11 +36,11 @@ pub fn read_on(
 {
     let mut state = state;
     let mut taken = 0;
-    while state.reads() {
+    while let Some(reading) = state.reading() {
         let (_, rest) = octets.split_at(taken);
         match first_message(rest) {
             Ok(Some(message)) => {
-                state = handle(alloc, roster, state, message, now, actions)?;
+                state = handle(alloc, roster, reading, message, now, actions)?;
                 taken += HEADER_LEN + message.body.len();
             }
             Ok(None) => return Ok(Read { state, taken }),

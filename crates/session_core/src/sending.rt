@@ -3,7 +3,7 @@
 ghost use Rattle.std.specs.Prelude.{◌≡◌, ◌≤◌, length, OnOk, IfOk};
 ghost use Rattle.bgp_fault.specs.Faults.{IsWithin};
 ghost use Rattle.bgp_msg.specs.Written.{data_length};
-ghost use Rattle.bgp_msg.specs.Faults.{fault_in};
+ghost use Rattle.path_attrs.specs.Refusals.{fault_in};
 ghost use Rattle.rcp_model.specs.Sessions.{then_also, sending, closing, keepalive};
 ghost use Rattle.session_core.specs.Shown.{doing_of, reason_of};
 

@@ -1,8 +1,8 @@
 //! The states of a session (RFC 4271 section 8.2.2).
 
-ghost use Rattle.std.specs.Prelude.{◌≡◌};
+ghost use Rattle.std.specs.Prelude.{◌≡◌, true, false, MatchOption};
 ghost use Rattle.rcp_model.specs.Sessions as sessions;
-ghost use Rattle.session_core.specs.Shown.{phase_of};
+ghost use Rattle.session_core.specs.Shown.{phase_of, reading_phase};
 
 use rcp_base::Slot;
 
@@ -45,14 +45,26 @@ pub enum State {
     Closed,
 }
 
+/// A state in which messages are read.
+#[derive(Clone, Copy, Debug, PartialEq, Eq)]
+pub enum Reading {
+    OpenSent { since: u64 },
+    OpenConfirm(Peering),
+    Established(Peering),
+}
+
 impl State {
-    /// Whether messages are read.
-    pub fn reads(&self) -> bool
-        ensures { result ≡ sessions.reads (phase_of self.now) }
+    /// The state, where messages are read in it.
+    pub fn reading(&self) -> Option<Reading>
+        ensures { MatchOption result
+            (sessions.reads (phase_of self.now) ≡ false)
+            (λ reading. (sessions.reads (phase_of self.now) ≡ true) × (reading_phase reading ≡ phase_of self.now)) }
     {
-        match self {
-            State::Claiming(_) | State::Closed => false,
-            _ => true,
+        match *self {
+            State::OpenSent { since } => Some(Reading::OpenSent { since }),
+            State::OpenConfirm(peering) => Some(Reading::OpenConfirm(peering)),
+            State::Established(peering) => Some(Reading::Established(peering)),
+            State::Claiming(_) | State::Closed => None,
         }
     }
 

@@ -2,12 +2,12 @@ use Rattle.std.proofs.Common.{◌≡◌, ◌+◌, List, [], ℕ, Option, None, l
 use Rattle.std.specs.Prelude.{MatchOption}
 use Rattle.std.proofs.Math.Seq.{drop-length}
 use Rattle.std.proofs.lemmas.List.{drop-drop}
-use Rattle.rcp_model.specs.Messages.{message_size}
-use Rattle.rcp_model.specs.Sessions.{fault_in_front, course_of, handle}
+use Rattle.rcp_model.specs.Messages.{message_size, message_octets}
+use Rattle.rcp_model.specs.Sessions.{Phase, fault_in_front, course_of, handle}
 use Rattle.rcp_model.proofs.ReadingLemmas.{message_size-Some}
 use Rattle.bgp_msg.specs.declared.framing.Message.{Message}
 use Rattle.bgp_msg.specs.Cutting.{IsInFront}
-use Rattle.bgp_msg.specs.Faults.{fault_in}
+use Rattle.path_attrs.specs.Refusals.{fault_in}
 use Rattle.session_core.specs.declared.state.State.TheVariants as state
 use Rattle.session_core.specs.Shown.{phase_of}
 use Rattle.session_core.specs.Steps.{Takes, Runs}
@@ -21,48 +21,49 @@ Stands octets found = MatchOption found
     ((message_size octets ≡ None) × (fault_in_front octets ≡ None))
     (λ message. IsInFront octets message.kind message.body.now)
 
-pub loop-alloc-preserved : goal.loop-alloc-preserved
-loop-alloc-preserved c =
+pub loop-reading-preserved : goal.loop-reading-preserved
+loop-reading-preserved c =
     let octets = c.args.octets.now in
-    let taken = c.loop-alloc.taken in
+    let taken = c.loop-reading.taken in
     let back = c.split_at.ensures.back in
     let message = c.in-Ok-Some.message in
     let count = 19 + length message.body.now in
     let given = subst (Stands c.split_at.result.1.now) c.in-Ok-Some.field-0-is c.in-Ok-Some.ensures.given in
     let size = ap message_size (sym back) ∙ given.size in
-    let takes = subst (λ (m : List ℕ). Takes (handle c.args.roster.now c.args.now m (phase_of c.loop-alloc.state)) c.loop-alloc.actions c.in_ok-state-in-Ok-Some.state c.handle.new.actions)
-    (sym given.message ∙ ap (take count) back) c.in_ok-state-in-Ok-Some.ensures in
+    let takes = subst (λ (m : List ℕ). Takes (handle c.args.roster.now c.args.now m (phase_of c.loop-reading.state)) c.loop-reading.actions c.in_ok-state-in-Ok-Some.state c.handle.new.actions)
+    (sym given.message ∙ ap (take count) back)
+    (subst (λ (p : Phase). Takes (handle c.args.roster.now c.args.now (message_octets message.kind message.body.now) p) c.loop-reading.actions c.in_ok-state-in-Ok-Some.state c.handle.new.actions) c.in-Some.ensures.1 c.in_ok-state-in-Ok-Some.ensures) in
     record {
-      within = omega (arith, c.loop-alloc.invariant.within, (message_size-Some (drop taken octets) count size).within, length-drop taken octets);
+      within = omega (arith, c.loop-reading.invariant.within, (message_size-Some (drop taken octets) count size).within, length-drop taken octets);
       same =
           ap (λ (o : List ℕ). going c.args.roster.now c.args.now c.handle.new.actions o c.in_ok-state-in-Ok-Some.state) (sym (drop-drop count taken octets))
-          ∙ goes-on c.args.roster.now c.args.now (drop taken octets) count c.loop-alloc.state c.in_ok-state-in-Ok-Some.state c.loop-alloc.actions c.handle.new.actions size (sym c.reads.ensures ∙ c.loop-alloc-test.true) takes
-          ∙ c.loop-alloc.invariant.same;
+          ∙ goes-on c.args.roster.now c.args.now (drop taken octets) count c.loop-reading.state c.in_ok-state-in-Ok-Some.state c.loop-reading.actions c.handle.new.actions size c.in-Some.ensures.0 takes
+          ∙ c.loop-reading.invariant.same;
     }
 
 pub returns-in-Ok-None-clause-runs : goal.returns-in-Ok-None-clause-runs
 returns-in-Ok-None-clause-runs c =
     let back = c.split_at.ensures.back in
     let given = subst (Stands c.split_at.result.1.now) c.in-Ok-None.field-0-is c.in-Ok-None.ensures.given in
-    runs-out c.args.roster.now c.args.now c.args.octets.now c.loop-alloc.taken c.args.state c.loop-alloc.state c.args.actions.now c.loop-alloc.actions c.loop-alloc.invariant.same
-    (ap message_size (sym back) ∙ given.0) (ap fault_in_front (sym back) ∙ given.1) (sym c.reads.ensures ∙ c.loop-alloc-test.true)
+    runs-out c.args.roster.now c.args.now c.args.octets.now c.loop-reading.taken c.args.state c.loop-reading.state c.args.actions.now c.loop-reading.actions c.loop-reading.invariant.same
+    (ap message_size (sym back) ∙ given.0) (ap fault_in_front (sym back) ∙ given.1) c.in-Some.ensures.0
 
 pub returns-in-Err-clause-runs : goal.returns-in-Err-clause-runs
 returns-in-Err-clause-runs c =
     let back = c.split_at.ensures.back in
-    runs-into c.args.roster.now c.args.now c.args.octets.now c.loop-alloc.taken c.args.state c.loop-alloc.state c.args.actions.now c.loop-alloc.actions c.loop-alloc.invariant.same
+    runs-into c.args.roster.now c.args.now c.args.octets.now c.loop-reading.taken c.args.state c.loop-reading.state c.args.actions.now c.loop-reading.actions c.loop-reading.invariant.same
     (fault_in [] c.in-Err.fault) (length c.args.octets.now) state.Closed c.close_by.new.actions
-    (ap message_size (sym back) ∙ c.in-Err.ensures.given.0) (ap fault_in_front (sym back) ∙ c.in-Err.ensures.given.1) (sym c.reads.ensures ∙ c.loop-alloc-test.true)
+    (ap message_size (sym back) ∙ c.in-Err.ensures.given.0) (ap fault_in_front (sym back) ∙ c.in-Err.ensures.given.1) c.in-Some.ensures.0
     refl (drop-length c.args.octets.now) c.in_ok-close_by-in-Err.ensures
 
 pub returns-clause-runs : goal.returns-clause-runs
 returns-clause-runs c = elim c.if-is_closed.branch [
   | then-is_closed w ↦
-      subst (λ (n : ℕ). Runs (course_of c.args.roster.now c.args.now c.args.octets.now (phase_of c.args.state)) c.args.actions.now c.args.octets.now n c.loop-alloc.state c.loop-alloc.actions) (sym w.taken-is)
-      (runs-closed c.args.roster.now c.args.now c.args.octets.now c.loop-alloc.taken c.args.state c.loop-alloc.state c.args.actions.now c.loop-alloc.actions c.loop-alloc.invariant.same
+      subst (λ (n : ℕ). Runs (course_of c.args.roster.now c.args.now c.args.octets.now (phase_of c.args.state)) c.args.actions.now c.args.octets.now n c.loop-reading.state c.loop-reading.actions) (sym w.taken-is)
+      (runs-closed c.args.roster.now c.args.now c.args.octets.now c.loop-reading.taken c.args.state c.loop-reading.state c.args.actions.now c.loop-reading.actions c.loop-reading.invariant.same
       (length c.args.octets.now) (sym c.is_closed.ensures ∙ w.if-is_closed.true) (drop-length c.args.octets.now))
   | else-is_closed w ↦
-      subst (λ (n : ℕ). Runs (course_of c.args.roster.now c.args.now c.args.octets.now (phase_of c.args.state)) c.args.actions.now c.args.octets.now n c.loop-alloc.state c.loop-alloc.actions) (sym w.taken-is)
-      (runs-up c.args.roster.now c.args.now c.args.octets.now c.loop-alloc.taken c.args.state c.loop-alloc.state c.args.actions.now c.loop-alloc.actions c.loop-alloc.invariant.same
-      (sym c.reads.ensures ∙ c.loop-alloc-test.false) (sym c.is_closed.ensures ∙ w.if-is_closed.false))
+      subst (λ (n : ℕ). Runs (course_of c.args.roster.now c.args.now c.args.octets.now (phase_of c.args.state)) c.args.actions.now c.args.octets.now n c.loop-reading.state c.loop-reading.actions) (sym w.taken-is)
+      (runs-up c.args.roster.now c.args.now c.args.octets.now c.loop-reading.taken c.args.state c.loop-reading.state c.args.actions.now c.loop-reading.actions c.loop-reading.invariant.same
+      c.in_default.ensures (sym c.is_closed.ensures ∙ w.if-is_closed.false))
 ]

@@ -3,11 +3,11 @@ use Rattle.std.proofs.Common.{◌≡◌, ◌-◌, ◌≤◌, length, drop}
 use Rattle.session_core.proofs.RunLemmas.{going}
 use Rattle.session_core.proofs.reading.read_on.Given as goal
 
-abbrev pub invariant-loop-alloc : goal.invariant-loop-alloc
-invariant-loop-alloc l = record {
+abbrev pub invariant-loop-reading : goal.invariant-loop-reading
+invariant-loop-reading l = record {
   within : l.taken ≤ length l.octets;
   same : going l.roster l.now l.actions (drop l.taken l.octets) l.state ≡ going l.roster l.now l.initial.actions l.octets l.initial.state;
 }
 
-abbrev pub decreases-loop-alloc : goal.decreases-loop-alloc
-decreases-loop-alloc l = length l.octets - l.taken
+abbrev pub decreases-loop-reading : goal.decreases-loop-reading
+decreases-loop-reading l = length l.octets - l.taken

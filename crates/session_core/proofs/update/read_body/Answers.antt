@@ -3,8 +3,7 @@ use Rattle.rcp_model.specs.Attributes.{attributes_fault, number_width}
 use Rattle.bgp_fault.specs.declared.Fault.{Fault}
 use Rattle.bgp_fault.specs.Faults.{IsWithin}
 use Rattle.path_attrs.specs.declared.refusal.AttrRefusal.{AttrRefusal}
-use Rattle.path_attrs.specs.Refusals.{IfFault}
-use Rattle.bgp_msg.specs.Faults.{fault_in}
+use Rattle.path_attrs.specs.Refusals.{fault_in, IfFault}
 use Rattle.session_core.proofs.UpdateLemmas.{no_sections, by_attributes, by_withdrawn, by_nlri, no_fault, room_within, bare_told}
 use Rattle.session_core.proofs.update.read_body.Goals as goal
 
