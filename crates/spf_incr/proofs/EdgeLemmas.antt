@@ -1,5 +1,5 @@
 -- One edge more or less: what it changes of the least costs from a router.
-use Rattle.std.proofs.Common.{◌≡◌, ℕ, Bool, true, false, not, zero, suc, ◌+◌, ◌<◌, ◌≤◌, ◌⊎◌, min, List, Contains, IsTrue, Option, Some, None, IfSome, IsSomeAnd, refl, sym, ap, subst, ◌∙◌, inl, inr, arith, zero-add, add-zero}
+use Rattle.std.proofs.Common.{◌≡◌, ℕ, Bool, true, false, not, ◌+◌, ◌≤◌, ◌⊎◌, min, List, Contains, IsTrue, Option, Some, None, IfSome, IsSomeAnd, refl, sym, ap, subst, ◌∙◌, inl, inr, arith, zero-add}
 use Rattle.std.proofs.lemmas.List.Kept.{AllPairs-filter}
 use Rattle.rcp_model.proofs.WalkLemmas.{Walk-then, Walk-edge, IsCost-unique, IsCost-from_settled, cost_is, cost-itself}
 use Rattle.rcp_model.proofs.MemberLemmas.{filter_member, member_of_filter}
@@ -210,3 +210,6 @@ included_again edge edges graph there =
       λ member. elim (more.no_other e member) [ inl same ↦ subst (Contains edges) same there | inr inside ↦ less.kept e inside ],
       λ member. elim (less.no_other e member) [ inl same ↦ subst (Contains (include_edge edge (exclude_edge edge edges))) same more.added | inr inside ↦ more.kept e inside ],
     ))
+
+pub not_excluded : (edge : Edge) (edges : List Edge) → Contains (exclude_edge edge edges) edge → ⊥
+not_excluded edge edges member = false≢true (sym (ap not (same-itself edge)) ∙ (member_of_filter (λ b. not (same_edge edge b)) edges edge member).1)

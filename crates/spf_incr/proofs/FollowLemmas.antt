@@ -1,5 +1,5 @@
 -- Rows brought over a graph one after another, and the pairs whose cost changed.
-use Rattle.std.proofs.Common.{◌≡◌, ◌≢◌, ℕ, suc, ◌+◌, ◌<◌, ◌≤◌, ◌⊎◌, List, [], ◌∷◌, ◌++◌, length, set, AllPairs, Contains, Option, Some, None, refl, sym, ap, subst, ◌∙◌, inl, inr, arith, length-set}
+use Rattle.std.proofs.Common.{◌≡◌, ℕ, ◌+◌, ◌<◌, ◌≤◌, List, [], ◌++◌, length, set, Contains, Option, Some, refl, sym, ap, subst, ◌∙◌, inl, inr, arith, length-set}
 use Rattle.std.specs.List.Sorted.{IsStrictlyIncreasing}
 use Rattle.std.proofs.lemmas.List.Kept.{AllPairs-from_increasing}
 use Rattle.rcp_base.specs.declared.names.Member.{Member}
@@ -7,7 +7,7 @@ use Rattle.rcp_model.proofs.MemberLemmas.{Contains-none}
 use Rattle.rcp_base.specs.declared.names.Edge.{Edge}
 use Rattle.rcp_model.specs.RouteServer.{router_at}
 use Rattle.cost_rows.specs.Engines.{AreChanges}
-use Rattle.cost_rows.specs.Search.{AreNames, IsFound}
+use Rattle.cost_rows.specs.Search.{IsFound}
 use Rattle.spf_incr.specs.Changes.{changed_pairs}
 use Rattle.spf_incr.specs.Tables.{row_at, costs_by, AreRows}
 use Rattle.spf_incr.proofs.PairLemmas.{row-set, row-set_here, changes_step}

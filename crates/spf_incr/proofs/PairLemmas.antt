@@ -1,18 +1,18 @@
 -- Pairs whose cost changed: those of one row, and those of the rows before it.
-use Rattle.std.proofs.Common.{◌≡◌, ◌≢◌, ℕ, zero, suc, ◌+◌, ◌<◌, ◌≤◌, Bool, true, false, cond, ◌==◌, ◌||◌, ◌&&◌, nat_lt, ◌⊎◌, ◌↔◌, List, [], ◌∷◌, ◌++◌, length, set, AllPairs, Contains, IsTrue, Option, Some, None, refl, sym, ap, subst, ◌∙◌, inl, inr, arith, eqb-true, eq-eqb, ne_eqb}
+use Rattle.std.proofs.Common.{◌≡◌, ◌≢◌, ℕ, zero, suc, ◌<◌, ◌≤◌, Bool, true, false, cond, ◌==◌, ◌||◌, ◌&&◌, nat_lt, ◌⊎◌, ◌↔◌, List, [], ◌∷◌, ◌++◌, length, set, AllPairs, Contains, IsTrue, Option, Some, None, refl, sym, ap, subst, inl, inr, arith, eqb-true, eq-eqb}
 use Rattle.std.specs.List.{cons_option}
 use Rattle.std.specs.List.Sorted.{IsStrictlyIncreasing}
 use Rattle.std.proofs.lemmas.Bool.{false≢true, eqb-false}
 use Rattle.std.proofs.lemmas.Bool.Decides.{nat_tests}
-use Rattle.std.proofs.lemmas.List.Elements.{All-contains, Contains-append_left, Contains-append_right, Contains-append_cases}
+use Rattle.std.proofs.lemmas.List.Elements.{Contains-append_left, Contains-append_right, Contains-append_cases}
 use Rattle.std.proofs.lemmas.List.Kept.{AllPairs-cons}
 use Rattle.rcp_model.proofs.MemberLemmas.{Contains-head, Contains-tail, Contains-cases, Contains-none}
 use Rattle.rcp_model.proofs.GraphLemmas.{All-from_members}
 use Rattle.rcp_model.specs.RouteServer.{same_cost}
 use Rattle.cost_rows.specs.Search.{found_at}
 use Rattle.cost_rows.specs.Engines.{is_pair_before, AreChanges}
-use Rattle.cost_rows.proofs.NameLemmas.{apart, apart-head, apart-tail, found-unnamed}
-use Rattle.spf_incr.specs.Changes.{changed_pair, changed_pairs}
+use Rattle.cost_rows.proofs.NameLemmas.{apart, apart-head, apart-tail}
+use Rattle.spf_incr.specs.Changes.{changed_pairs}
 use Rattle.spf_incr.specs.Tables.{row_at, costs_by}
 
 same-cost : (a b : Option ℕ) → same_cost a b ≡ true → a ≡ b

@@ -1,5 +1,5 @@
 -- Rows: what a change of one edge does to the costs at the places of names.
-use Rattle.std.proofs.Common.{◌≡◌, ℕ, suc, ◌+◌, ◌*◌, ◌<◌, ◌≤◌, Bool, true, false, cond, ◌==◌, ◌⊎◌, inl, inr, nat_cmp, min, List, [], ◌∷◌, length, get_or, slice_get, Contains, IsTrue, Option, Some, None, IfSome, IsSomeAnd, Result, Ok, Err, MatchResult, is_ok, refl, sym, ap, subst, ◌∙◌, arith}
+use Rattle.std.proofs.Common.{◌≡◌, ℕ, ◌+◌, ◌<◌, ◌≤◌, Bool, true, false, cond, ◌==◌, ◌⊎◌, inl, inr, nat_cmp, min, List, [], ◌∷◌, length, get_or, slice_get, Contains, IsTrue, Option, Some, None, IfSome, IsSomeAnd, Result, Ok, Err, MatchResult, is_ok, refl, sym, ap, subst, ◌∙◌, arith}
 use Rattle.std.specs.List.Sorted.{IsStrictlyIncreasing, IsBinarySearchResult}
 use Rattle.std.proofs.lemmas.Bool.{false≢true}
 use Rattle.std.proofs.lemmas.List.{get_or_default}
@@ -8,15 +8,15 @@ use Rattle.std.proofs.lemmas.Option.{slice_get-get_or, slice_get_within, get_or_
 use Rattle.std.proofs.lemmas.List.Elements.{All-contains}
 use Rattle.rcp_base.specs.declared.names.Edge.{Edge}
 use Rattle.rcp_model.specs.Costs.{lesser, joined, cost}
-use Rattle.rcp_model.specs.Graphs.{IsGraph, routers_in}
+use Rattle.rcp_model.specs.Graphs.{IsGraph}
 use Rattle.cost_rows.specs.Search.{found_at, IsFound}
 use Rattle.cost_rows.proofs.BoundLemmas.{cost_bound}
 use Rattle.cost_rows.proofs.NameLemmas.{apart, found-place, found-unnamed, names_rise}
 use Rattle.spf_incr.specs.declared.way.Hop.{Hop}
 use Rattle.spf_incr.specs.declared.way.Way.{Way}
 use Rattle.spf_incr.specs.declared.way.Way.TheVariants as way
-use Rattle.spf_incr.specs.Changes.{IsWith, IsHop, IsTight, IsNotLower, IsUntouched, IsWay, at_place, sum_over, capped_sum, lowered}
-use Rattle.spf_incr.proofs.EdgeLemmas.{added_same, removed_same, added_cost, over_edge}
+use Rattle.spf_incr.specs.Changes.{IsWith, IsHop, IsTight, IsNotLower, IsUntouched, IsWay, at_place, sum_over, lowered}
+use Rattle.spf_incr.proofs.EdgeLemmas.{added_same, removed_same, added_cost}
 
 -- ---- a row that a change doesn't touch
 

@@ -1,7 +1,7 @@
 -- Changes of one edge: when the costs from a root stay, and what they are otherwise.
-use Rattle.std.specs.Prelude.{◌≡◌, ℕ, ◌+◌, ◌<◌, ◌≤◌, ◌⊎◌, Bool, true, false, List, [], ◌∷◌, length, map, filter_map, zip, min, slice_get, slice_index_or, Contains, Option, Some, None, IsSomeAnd, if◌then◌else◌}
+use Rattle.std.specs.Prelude.{◌≡◌, ℕ, ◌+◌, ◌<◌, ◌≤◌, ◌⊎◌, List, map, filter_map, zip, min, slice_get, slice_index_or, Contains, Option, Some, None, IsSomeAnd, if◌then◌else◌}
 use Rattle.rcp_base.specs.declared.names.Edge.{Edge}
-use Rattle.rcp_model.specs.Costs.{lesser, joined}
+use Rattle.rcp_model.specs.Costs.{lesser}
 use Rattle.rcp_model.specs.RouteServer.{same_cost}
 use Rattle.cost_rows.specs.Search.{IsFound}
 use Rattle.spf_incr.specs.declared.way.Hop.{Hop}

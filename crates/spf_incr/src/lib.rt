@@ -26,3 +26,6 @@ mod way;
 
 pub use cost_rows::CostEngine;
 pub use engines::{PlainEngine, TreeEngine};
+
+#[cfg(test)]
+mod tests;

@@ -1,7 +1,6 @@
-use Rattle.std.proofs.Common.{refl, subst, sym, ◌∙◌, ap}
+use Rattle.std.proofs.Common.{refl, subst, sym, ◌∙◌}
 use Rattle.std.proofs.lemmas.Result.{IfOk-weaker}
 use Rattle.cost_rows.specs.Search.{IsFound}
-use Rattle.spf_incr.specs.Changes.{IsWay, lowered, at_place, sum_over}
 use Rattle.spf_incr.proofs.RowLemmas.{added_row}
 use Rattle.spf_incr.proofs.rows.new_row.Goals as goal
 

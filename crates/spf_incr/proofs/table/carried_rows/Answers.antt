@@ -1,4 +1,4 @@
-use Rattle.std.proofs.Common.{◌+◌, map, length, take, ap, ◌∙◌, ◌∷◌, [], sym, subst, arith}
+use Rattle.std.proofs.Common.{map, length, ap, ◌∙◌, sym, subst, arith}
 use Rattle.std.proofs.lemmas.List.{length-map, take_all}
 use Rattle.cost_rows.specs.Search.{found_at}
 use Rattle.spf_incr.specs.Tables.{AreRows}

@@ -1,10 +1,7 @@
-use Rattle.std.proofs.Common.{◌+◌, ◌++◌, ◌≡◌, ◌<◌, ℕ, List, Option, Some, map, length, set, ap, ◌∙◌, ◌∷◌, [], sym, subst, arith}
+use Rattle.std.proofs.Common.{map, length, set, ap, ◌∙◌, sym, subst, arith}
 use Rattle.std.proofs.lemmas.List.{length-map, map-set}
-use Rattle.rcp_model.specs.RouteServer.{router_at}
 use Rattle.cost_rows.specs.Search.{IsFound}
-use Rattle.spf_incr.specs.Changes.{changed_pairs}
-use Rattle.spf_incr.specs.Tables.{row_at}
-use Rattle.spf_incr.proofs.TableLemmas.{item_row, router_item, row_length}
+use Rattle.spf_incr.proofs.TableLemmas.{item_row, router_item}
 use Rattle.spf_incr.proofs.FollowLemmas.{following_next, following_ends}
 use Rattle.spf_incr.proofs.table.follow_all.Goals as goal
 

@@ -1,8 +1,4 @@
-use Rattle.std.proofs.Common.{◌≡◌, Bool, true, false, Contains, refl, sym, subst}
-use Rattle.std.proofs.lemmas.Bool.{false≢true}
-use Rattle.rcp_base.specs.declared.names.Edge.{Edge}
-use Rattle.cost_rows.specs.Engines.{graph_before}
-use Rattle.spf_incr.specs.Changes.{IsWith, IsHop}
+use Rattle.std.proofs.Common.{refl}
 use Rattle.spf_incr.proofs.EdgeLemmas.{before_is_more, before_is_less}
 use Rattle.spf_incr.proofs.table.way_of.Goals as goal
 

@@ -1,7 +1,7 @@
-use Rattle.std.proofs.Common.{◌≡◌, map, ◌∙◌, sym, subst}
+use Rattle.std.proofs.Common.{map, sym, subst}
 use Rattle.cost_rows.specs.Engines.{graph_before}
 use Rattle.cost_rows.specs.Search.{AreNames}
-use Rattle.spf_incr.specs.Tables.{AreRows, IsEngineOver}
+use Rattle.spf_incr.specs.Tables.{IsEngineOver}
 use Rattle.spf_incr.proofs.TableLemmas.{names_after, names_before, table_over, engine_over}
 use Rattle.spf_incr.proofs.table.Table.name_ends.Goals as goal
 

@@ -1,4 +1,4 @@
-use Rattle.std.proofs.Common.{◌≤◌, map, length, ap, ◌∙◌, sym, refl, subst}
+use Rattle.std.proofs.Common.{map, ◌∙◌, sym, refl, subst}
 use Rattle.spf_incr.specs.Tables.{AreRows}
 use Rattle.spf_incr.proofs.TableLemmas.{table_over, engine_over}
 use Rattle.spf_incr.proofs.table.Table.new.Goals as goal

@@ -1,4 +1,4 @@
-use Rattle.std.proofs.Common.{◌≡◌, ◌++◌, false, length, take, drop, map, ap, ◌∙◌, refl, sym, subst}
+use Rattle.std.proofs.Common.{◌++◌, false, length, take, drop, map, ap, ◌∙◌, refl, sym, subst}
 use Rattle.cost_rows.specs.Engines.{graph_before}
 use Rattle.cost_rows.specs.Search.{AreNames}
 use Rattle.cost_rows.proofs.SearchLemmas.{whole}
