@@ -51,6 +51,29 @@ impl Framer {
         })
     }
 
+    /// Begins a new stream: what came of the one before is dropped, and so is a loss of framing.
+    pub fn restart(&mut self)
+        ensures { self.new ≡ at_start }
+    {
+        self.len = 0;
+        self.place = 0;
+    }
+
+    /// How many octets are held, of which none was handed out: at most 65,535.
+    pub fn held_len(&self) -> usize
+        ensures len { result ≡ length self.now.held }
+        ensures few { result ≤ 65535 }
+    {
+        self.len
+    }
+
+    /// Where in the stream the first octet stands that wasn't handed out: at most 2^64 - 1.
+    pub fn place(&self) -> u64
+        ensures { result ≡ self.now.place }
+    {
+        self.place
+    }
+
     /// Takes a front of the piece, and answers how many octets it took: all of them, unless a packet is whole or
     /// the framing is lost. Where one of these was so before, it takes none.
     pub fn feed(&mut self, piece: &[u8]) -> usize

@@ -1,0 +1,6 @@
+mod EdgeLemmas
+mod StreamLemmas
+mod TakingLemmas
+mod YoungLemmas
+mod ReadLemmas
+mod RosterLemmas

@@ -1,0 +1,3 @@
+pub mod Igp
+pub mod Streams
+pub mod Reading
