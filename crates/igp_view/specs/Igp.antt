@@ -1,7 +1,7 @@
 -- What contracts see of a view of the interior network.
 use Rattle.std.specs.Prelude.{◌≡◌, ℕ, ◌+◌, ◌-◌, ◌^◌, ◌≤◌, Bool, List, length, min, All}
 use Rattle.rcp_base.specs.declared.names.Member.{Member}
-use Rattle.rcp_model.specs.declared.event.Edge.{Edge}
+use Rattle.rcp_base.specs.declared.names.Edge.{Edge}
 use Rattle.rcp_model.specs.LinkState.{LinkState}
 use Rattle.rcp_model.specs.Edges.{edges_of}
 use Rattle.rcp_model.specs.Graphs.{routers_in}
