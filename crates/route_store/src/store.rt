@@ -82,12 +82,17 @@ impl RouteStore {
         ensures before { IfOk result (λ before. before ≡ map_of.get self.old (p, slot)) }
         ensures err { OnErr result (self.new ≡ self.old) }
     {
-        let before = put(&mut self.rows, self.alloc, p, slot, route)?;
-        if before.is_none() && add_seat(&mut self.seats, self.alloc, slot, p).is_err() {
+        let Ok(before) = put(&mut self.rows, self.alloc, p, slot, route) else {
+            return Err(NoMemory);
+        };
+        if before.is_some() {
+            return Ok(before);
+        }
+        let Ok(_added) = add_seat(&mut self.seats, self.alloc, slot, p) else {
             take(&mut self.rows, p, slot);
             return Err(NoMemory);
-        }
-        Ok(before)
+        };
+        Ok(None)
     }
 
     /// Takes the route of a slot at a prefix out, and gives its number back, None where there is none. It takes no memory.
