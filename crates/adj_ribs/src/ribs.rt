@@ -1,6 +1,6 @@
 //! The joined stores.
 
-ghost use Rattle.std.specs.Prelude.{◌≡◌, ◌≢◌, ◌<◌, ◌↔◌, true, not, Some, None, Ok, IfOk, OnOk, OnErr, IfSome, IsTrue, option_map, is_some};
+ghost use Rattle.std.specs.Prelude.{◌≡◌, ℕ, ◌<◌, ◌↔◌, true, not, Some, None, Ok, IfOk, OnOk, OnErr, IfSome, IsTrue, option_map, is_some};
 ghost use Rattle.std.specs.List.{AllPairs, Contains};
 ghost use Rattle.std.specs.FinMap as map_of;
 ghost use Rattle.rcp_model.specs.Ribs.{RibKey};
@@ -109,8 +109,8 @@ impl AdjRibs {
     pub fn drop_all(&mut self, slot: Slot)
         ensures { self.new ≡ after_drop slot self.old }
     {
-        while let Some((_p, number)) = self.announcements.take_first(slot) {
-            self.routes.release(number);
+        while let Some(p) = self.next_of(slot, None) {
+            self.withdraw(slot, p);
         }
     }
 
@@ -166,7 +166,7 @@ impl AdjRibs {
         ensures changed { result ≡ not (is_same (given_at self.old to p) (route_of self.old p from)) }
         ensures after { self.new ≡ after_set to p from self.old }
     {
-        let number = match from {
+        let number = match &from {
             Some(announcer) => Some(announcer.route()),
             None => None,
         };
@@ -188,7 +188,13 @@ impl AdjRibs {
         requires { slot < self.old.members }
         ensures { self.new ≡ after_clear slot self.old }
     {
-        release_cells(&mut self.routes, &self.table, slot);
+        let mut after = None;
+        while let Some(p) = self.table.next_entry(slot, after) {
+            if let Some(number) = self.table.get(slot, p) {
+                self.routes.release(number);
+            }
+            after = Some(p);
+        }
         self.table.clear(slot);
     }
 
@@ -239,16 +245,5 @@ impl AdjRibs {
         ensures { IsNextGiven self.now slot after result }
     {
         self.table.next_entry(slot, after)
-    }
-}
-
-/// One use less of the route in each cell of a slot.
-fn release_cells(routes: &mut AttrStore, table: &OutTable, slot: Slot) {
-    let mut after = None;
-    while let Some(p) = table.next_entry(slot, after) {
-        if let Some(number) = table.get(slot, p) {
-            routes.release(number);
-        }
-        after = Some(p);
     }
 }
