@@ -1,1 +1,4 @@
 pub mod UseLemmas
+pub mod RouteLemmas
+pub mod JoinLemmas
+pub mod AnnounceLemmas

@@ -1,5 +1,5 @@
 -- The uses of numbers: how many announcements and cells hold one after a change of the maps, and what the store of routes counts.
-use Rattle.std.proofs.Common.{◌≡◌, ◌≢◌, ℕ, zero, suc, ◌+◌, ◌-◌, ◌<◌, ◌==◌, Bool, true, false, cond, not, ◌&&◌, ◌⊎◌, ◌×◌, eqb, Option, Some, None, is_some, IsSome, refl, sym, ap, subst, ◌∙◌, inl, inr, arith}
+use Rattle.std.proofs.Common.{◌≡◌, ◌≢◌, ℕ, zero, suc, ◌+◌, ◌-◌, ◌<◌, ◌==◌, Bool, true, false, cond, not, ◌&&◌, ◌⊎◌, eqb, Option, Some, None, is_some, IsSome, IfSome, refl, sym, ap, subst, ◌∙◌, inl, inr, arith}
 use Rattle.std.specs.Option.{option_map, unwrap_or}
 use Rattle.std.specs.Cmp.{unsigned_tied, Equal-is}
 use Rattle.std.specs.FinMap as map_of
@@ -15,7 +15,7 @@ use Rattle.rcp_model.proofs.RibLemmas.{rib_total, rib_exact}
 use Rattle.rib_laws.proofs.RibLookups.{key_tied, get-with_value, get-retained}
 use Rattle.attr_store.specs.declared.kept.KeptRoute.{KeptRoute}
 use Rattle.attr_store.specs.Kept.{KeptRoutes, MOST_USES, route_at, uses_at, IsLive, HasEachOnce, one_more, used, retained, retained_at, released, released_at}
-use Rattle.adj_ribs.specs.Joins.{is_number, holders, count_of, IsCounted}
+use Rattle.adj_ribs.specs.Joins.{is_number, holders, count_of, held_by, IsCounted, retained_if, released_if}
 
 -- ---- keys
 
@@ -38,7 +38,7 @@ one_at number value = cond (is_number number value) 1 0
 abbrev hold : ℕ → Option ℕ → Option ℕ
 hold number value = cond (is_number number value) value None
 
-there : {V : Type 0} → Option V → ℕ
+abbrev there : {V : Type 0} → Option V → ℕ
 there value = cond (is_some value) 1 0
 
 get_holders : (number : ℕ) (numbers : RouteNumbers) (k : RibKey) → map_of.get (holders number numbers) k ≡ hold number (map_of.get numbers k)
@@ -106,21 +106,21 @@ count_empty number =
 
 -- ---- what the store of routes counts
 
-uses_of : Option KeptRoute → ℕ
+abbrev uses_of : Option KeptRoute → ℕ
 uses_of kept = unwrap_or (option_map (λ (k : KeptRoute). k.uses) kept) 0
 
 tied : (m n : ℕ) → eq_by_cmp nat_cmp m n ≡ (m == n)
 tied m n = unsigned_tied m n
 
-get_put : (routes : KeptRoutes) (n : ℕ) (kept : KeptRoute) (m : ℕ) → map_of.get (map_of.insert routes n kept) m ≡ cond (m == n) (Some kept) (map_of.get routes m)
+pub get_put : (routes : KeptRoutes) (n : ℕ) (kept : KeptRoute) (m : ℕ) → map_of.get (map_of.insert routes n kept) m ≡ cond (m == n) (Some kept) (map_of.get routes m)
 get_put routes n kept m = map_of.get-insert nat_cmp_total routes n kept m ∙ ap (λ (b : Bool). cond b (Some kept) (map_of.get routes m)) (tied m n)
 
-get_gone : (routes : KeptRoutes) (n m : ℕ) → map_of.get (map_of.remove routes n) m ≡ cond (m == n) None (map_of.get routes m)
+pub get_gone : (routes : KeptRoutes) (n m : ℕ) → map_of.get (map_of.remove routes n) m ≡ cond (m == n) None (map_of.get routes m)
 get_gone routes n m = map_of.get-remove nat_cmp_total routes n m ∙ ap (λ (b : Bool). cond b None (map_of.get routes m)) (tied m n)
 
--- one use more, of this number
-abbrev pub plus_one : (ℕ → ℕ) → ℕ → ℕ → ℕ
-plus_one count n m = count m + one_at m (Some n)
+-- one use more of a number, where there is one
+abbrev pub plus : (ℕ → ℕ) → Option ℕ → ℕ → ℕ
+plus count value m = count m + one_at m value
 
 pub counted_same : (routes : KeptRoutes) (count now : ℕ → ℕ) → ((m : ℕ) → count m ≡ now m) → IsCounted routes count → IsCounted routes now
 counted_same routes count now same counted m = elim (counted m) [ inl e ↦ inl (e ∙ same m) | inr e ↦ inr e ]
@@ -130,7 +130,7 @@ more uses count (inl e) = grind (arith, nat_tests)
 more uses count (inr e) = inr (grind (arith, nat_tests))
 
 counted_put : (routes : KeptRoutes) (count : ℕ → ℕ) (n : ℕ) (kept : KeptRoute) → kept.uses ≡ one_more (uses_at routes n)
-    → IsCounted routes count → IsCounted (map_of.insert routes n kept) (plus_one count n)
+    → IsCounted routes count → IsCounted (map_of.insert routes n kept) (plus count (Some n))
 counted_put routes count n kept one counted m =
     let uses_are : uses_at (map_of.insert routes n kept) m ≡ uses_of (cond (m == n) (Some kept) (map_of.get routes m)) = ap uses_of (get_put routes n kept m) in
     at_test (m == n) refl uses_are where
@@ -148,12 +148,12 @@ counted_put routes count n kept one counted m =
         | inr e ↦ inr (uses_are ∙ e)
       ]
 
-pub counted_used : (routes : KeptRoutes) (count : ℕ → ℕ) (n : ℕ) (route : RouteFields) → IsCounted routes count → IsCounted (used routes n route) (plus_one count n)
+pub counted_used : (routes : KeptRoutes) (count : ℕ → ℕ) (n : ℕ) (route : RouteFields) → IsCounted routes count → IsCounted (used routes n route) (plus count (Some n))
 counted_used routes count n route counted = counted_put routes count n (record { route = route; uses = one_more (uses_at routes n) }) refl counted
 
-pub counted_retained : (routes : KeptRoutes) (count : ℕ → ℕ) (n : ℕ) → IsLive routes n → IsCounted routes count → IsCounted (retained routes n) (plus_one count n)
+pub counted_retained : (routes : KeptRoutes) (count : ℕ → ℕ) (n : ℕ) → IsLive routes n → IsCounted routes count → IsCounted (retained routes n) (plus count (Some n))
 counted_retained routes count n live counted = at_kept (map_of.get routes n) refl live where
-  at_kept : (o : Option KeptRoute) → map_of.get routes n ≡ o → IsSome o → IsCounted (retained_at routes n o) (plus_one count n)
+  at_kept : (o : Option KeptRoute) → map_of.get routes n ≡ o → IsSome o → IsCounted (retained_at routes n o) (plus count (Some n))
   at_kept None e live = absurd cc
   at_kept (Some kept) e live =
       counted_put routes count n (record kept { uses = one_more kept.uses }) (ap one_more (sym (ap uses_of e))) counted
@@ -177,7 +177,7 @@ less uses count (inl e) not_most = e
 less uses count (inr e) not_most = absurd (grind (arith, nat_tests))
 
 released_uses : (routes : KeptRoutes) (count : ℕ → ℕ) (n : ℕ) (kept : KeptRoute) → map_of.get routes n ≡ Some kept
-    → IsCounted routes (plus_one count n) → IsCounted (released_at routes n (Some kept)) count
+    → IsCounted routes (plus count (Some n)) → IsCounted (released_at routes n (Some kept)) count
 released_uses routes count n kept e counted = at_most (kept.uses == MOST_USES) refl where
   own : (uses_at routes n ≡ count n + 1) ⊎ (uses_at routes n ≡ MOST_USES)
   own = elim (counted n) [ inl same ↦ inl (same ∙ ap (λ (b : Bool). count n + cond b 1 0) (eq-eqb n n refl)) | inr most ↦ inr most ]
@@ -223,13 +223,52 @@ released_uses routes count n kept e counted = at_most (kept.uses == MOST_USES) r
     at_test : (b : Bool) → (m == n) ≡ b → (uses_at routes m ≡ count m) ⊎ (uses_at routes m ≡ MOST_USES)
     at_test true same = inr (ap (uses_at routes) (eqb-true m n same) ∙ kept_uses ∙ eqb-true kept.uses MOST_USES most)
     at_test false differs = other m differs
-  at_most false not_most = at_one (kept.uses == 1) refl not_most
+  at_most false not_most m = at_one (kept.uses == 1) refl not_most m
 
-pub counted_released : (routes : KeptRoutes) (count : ℕ → ℕ) (n : ℕ) → IsCounted routes (plus_one count n) → IsCounted (released routes n) count
+pub counted_released : (routes : KeptRoutes) (count : ℕ → ℕ) (n : ℕ) → IsCounted routes (plus count (Some n)) → IsCounted (released routes n) count
 counted_released routes count n counted = at_kept (map_of.get routes n) refl where
-  own : 0 < plus_one count n n
+  own : 0 < plus count (Some n) n
   own = subst (λ k. 0 < k) (ap (λ (b : Bool). count n + cond b 1 0) (sym (eq-eqb n n refl))) (let l : 0 < count n + 1 = omega arith in l)
 
   at_kept : (o : Option KeptRoute) → map_of.get routes n ≡ o → IsCounted (released_at routes n o) count
-  at_kept None e = let live = subst IsSome e (live_of routes (plus_one count n) n counted own) in absurd cc
+  at_kept None e = let live = subst IsSome e (live_of routes (plus count (Some n)) n counted own) in absurd cc
   at_kept (Some kept) e = released_uses routes count n kept e counted
+
+-- ---- where there may be a number
+
+pub counted_retained_if : (routes : KeptRoutes) (count : ℕ → ℕ) (value : Option ℕ) → IfSome value (IsLive routes) → IsCounted routes count → IsCounted (retained_if routes value) (plus count value)
+counted_retained_if routes count None live counted = counted_same routes count (plus count None) (λ m. omega arith) counted
+counted_retained_if routes count (Some n) live counted = counted_retained routes count n live counted
+
+pub counted_released_if : (routes : KeptRoutes) (count : ℕ → ℕ) (value : Option ℕ) → IsCounted routes (plus count value) → IsCounted (released_if routes value) count
+counted_released_if routes count None counted = counted_same routes (plus count None) count (λ m. omega arith) counted
+counted_released_if routes count (Some n) counted = counted_released routes count n counted
+
+-- a number that is counted besides is live
+pub live_if : (routes : KeptRoutes) (count : ℕ → ℕ) (value : Option ℕ) → IsCounted routes (plus count value) → IfSome value (IsLive routes)
+live_if routes count None counted = tt
+live_if routes count (Some n) counted =
+    live_of routes (plus count (Some n)) n counted
+    (subst (λ k. 0 < k) (ap (λ (b : Bool). count n + cond b 1 0) (sym (eq-eqb n n refl))) (let l : 0 < count n + 1 = omega arith in l))
+
+-- ---- the joined counts
+
+pub in_numbers : (numbers cells : RouteNumbers) (k : RibKey) (m : ℕ) → map_of.get numbers k ≡ Some m → 0 < held_by numbers cells m
+in_numbers numbers cells k m here = let some = count_some m k numbers here in omega arith
+
+pub in_cells : (numbers cells : RouteNumbers) (k : RibKey) (m : ℕ) → map_of.get cells k ≡ Some m → 0 < held_by numbers cells m
+in_cells numbers cells k m here = let some = count_some m k cells here in omega arith
+
+-- a use of the number that an announcement gets becomes one of the number that it had
+pub counted_numbers : (routes : KeptRoutes) (numbers cells : RouteNumbers) (key : RibKey) (value : Option ℕ) → IsCounted routes (plus (held_by numbers cells) value)
+    → IsCounted routes (plus (held_by (with_value key value numbers) cells) (map_of.get numbers key))
+counted_numbers routes numbers cells key value counted =
+    counted_same routes (plus (held_by numbers cells) value) (plus (held_by (with_value key value numbers) cells) (map_of.get numbers key))
+    (λ m. let moved = count_with m key value numbers in omega arith) counted
+
+-- the same of a cell
+pub counted_cells : (routes : KeptRoutes) (numbers cells : RouteNumbers) (key : RibKey) (value : Option ℕ) → IsCounted routes (plus (held_by numbers cells) value)
+    → IsCounted routes (plus (held_by numbers (with_value key value cells)) (map_of.get cells key))
+counted_cells routes numbers cells key value counted =
+    counted_same routes (plus (held_by numbers cells) value) (plus (held_by numbers (with_value key value cells)) (map_of.get cells key))
+    (λ m. let moved = count_with m key value cells in omega arith) counted

@@ -6,7 +6,7 @@ use Rattle.rcp_base.specs.IpPrefix.{IpPrefix}
 use Rattle.rcp_model.specs.Routes.{RouteFields}
 use Rattle.rcp_model.specs.Ribs.{RibKey, rib_cmp, RouteNumbers}
 use Rattle.rcp_model.specs.ServerRibs.{Rib, Prefixes}
-use Rattle.attr_store.specs.Kept.{KeptRoutes, route_at, uses_at, MOST_USES, HasEachOnce}
+use Rattle.attr_store.specs.Kept.{KeptRoutes, route_at, uses_at, MOST_USES, HasEachOnce, retained, released}
 use Rattle.out_table.specs.Tables.{Table}
 use Rattle.adj_ribs.specs.Bases.{Bases}
 
@@ -54,6 +54,15 @@ IsCounted routes count = (number : ℕ) → (uses_at routes number ≡ count num
 -- how many announcements and cells hold a number
 abbrev pub held_by : RouteNumbers → RouteNumbers → ℕ → ℕ
 held_by numbers cells number = count_of number numbers + count_of number cells
+
+-- one use more, or less, of a number where there is one
+abbrev pub retained_if : KeptRoutes → Option ℕ → KeptRoutes
+retained_if routes None = routes
+retained_if routes (Some number) = retained routes number
+
+abbrev pub released_if : KeptRoutes → Option ℕ → KeptRoutes
+released_if routes None = routes
+released_if routes (Some number) = released routes number
 
 -- ---- the joins
 

@@ -23,6 +23,7 @@
 #![tactic(auto)]
 
 mod ribs;
+mod uses;
 
 pub use ribs::AdjRibs;
 pub use route_store::{Announcer, RouteNo};

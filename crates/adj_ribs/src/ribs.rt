@@ -6,6 +6,7 @@ ghost use Rattle.std.specs.FinMap as map_of;
 ghost use Rattle.rcp_model.specs.Ribs.{RibKey};
 ghost use Rattle.adj_ribs.specs.Bases.{no_bases, announced_at, given_at, is_opened, is_dirty, is_same, IsNextAnnounced, IsNextOf, IsNextGiven, IsLeastDirty, AreNumbered, IsNumber, IsAnnouncer, route_of, after_change, after_open, after_drop, after_set, after_clear, after_take};
 
+use crate::uses::{number_of, release, retain};
 use attr_store::AttrStore;
 use out_table::OutTable;
 use rcp_base::{NoMemory, Prefix, Slot};
@@ -73,21 +74,16 @@ impl AdjRibs {
         ensures err { OnErr result (self.new ≡ self.old) }
     {
         let number = self.routes.intern(route)?;
-        let before = match self.announcements.replace(slot, p, number) {
-            Ok(before) => before,
-            Err(_) => {
-                self.routes.release(number);
-                return Err(NoMemory);
-            }
-        };
-        if self.table.open(p).is_err() {
-            self.announcements.unset(slot, p);
+        let Ok(before) = self.announcements.replace(slot, p, number) else {
             self.routes.release(number);
             return Err(NoMemory);
-        }
-        if let Some(before) = before {
-            self.routes.release(before);
-        }
+        };
+        let Ok(()) = self.table.open(p) else {
+            self.announcements.take(slot, p);
+            self.routes.release(number);
+            return Err(NoMemory);
+        };
+        release(&mut self.routes, before);
         Ok(before != Some(number))
     }
 
@@ -96,13 +92,9 @@ impl AdjRibs {
         ensures changed { result ≡ is_some (announced_at self.old slot p) }
         ensures after { self.new ≡ after_change slot p None None self.old }
     {
-        match self.announcements.take(slot, p) {
-            Some(number) => {
-                self.routes.release(number);
-                true
-            }
-            None => false,
-        }
+        let before = self.announcements.take(slot, p);
+        release(&mut self.routes, before);
+        before.is_some()
     }
 
     /// Takes out all that a slot announces. It takes no memory, and goes over the slot's prefixes alone.
@@ -166,20 +158,13 @@ impl AdjRibs {
         ensures changed { result ≡ not (is_same (given_at self.old to p) (route_of self.old p from)) }
         ensures after { self.new ≡ after_set to p from self.old }
     {
-        let number = match &from {
-            Some(announcer) => Some(announcer.route()),
-            None => None,
-        };
+        let number = number_of(from);
         let before = self.table.get(to, p);
         if !self.table.set(to, p, number) {
             return false;
         }
-        if let Some(number) = number {
-            self.routes.retain(number);
-        }
-        if let Some(before) = before {
-            self.routes.release(before);
-        }
+        retain(&mut self.routes, number);
+        release(&mut self.routes, before);
         true
     }
 
@@ -190,9 +175,7 @@ impl AdjRibs {
     {
         let mut after = None;
         while let Some(p) = self.table.next_entry(slot, after) {
-            if let Some(number) = self.table.get(slot, p) {
-                self.routes.release(number);
-            }
+            release(&mut self.routes, self.table.get(slot, p));
             after = Some(p);
         }
         self.table.clear(slot);
