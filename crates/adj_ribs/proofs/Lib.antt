@@ -2,3 +2,4 @@ pub mod UseLemmas
 pub mod RouteLemmas
 pub mod JoinLemmas
 pub mod AnnounceLemmas
+pub mod ChangeLemmas

@@ -158,12 +158,12 @@ impl AdjRibs {
         ensures changed { result ≡ not (is_same (given_at self.old to p) (route_of self.old p from)) }
         ensures after { self.new ≡ after_set to p from self.old }
     {
-        let number = number_of(from);
+        let number = number_of(&from);
         let before = self.table.get(to, p);
         if !self.table.set(to, p, number) {
             return false;
         }
-        retain(&mut self.routes, number);
+        retain(&mut self.routes, number_of(&from));
         release(&mut self.routes, before);
         true
     }

@@ -9,10 +9,10 @@ use rcp_model::RouteNo;
 use route_store::Announcer;
 
 /// The number of the route that is announced.
-pub fn number_of(from: Option<Announcer>) -> Option<RouteNo>
-    ensures { result ≡ option_map (λ announcer. announcer.1) from }
+pub fn number_of(from: &Option<Announcer>) -> Option<RouteNo>
+    ensures { result ≡ option_map (λ announcer. announcer.1) from.now }
 {
-    match &from {
+    match from {
         Some(announcer) => Some(announcer.route()),
         None => None,
     }
