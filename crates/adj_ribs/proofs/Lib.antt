@@ -3,3 +3,4 @@ pub mod RouteLemmas
 pub mod JoinLemmas
 pub mod AnnounceLemmas
 pub mod ChangeLemmas
+pub mod LookLemmas

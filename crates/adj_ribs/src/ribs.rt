@@ -6,7 +6,7 @@ ghost use Rattle.std.specs.FinMap as map_of;
 ghost use Rattle.rcp_model.specs.Ribs.{RibKey};
 ghost use Rattle.adj_ribs.specs.Bases.{no_bases, announced_at, given_at, is_opened, is_dirty, is_same, IsNextAnnounced, IsNextOf, IsNextGiven, IsLeastDirty, AreNumbered, IsNumber, IsAnnouncer, route_of, after_change, after_open, after_drop, after_set, after_clear, after_take};
 
-use crate::uses::{number_of, release, retain};
+use crate::uses::{number_of, prefix_of, release, retain};
 use attr_store::AttrStore;
 use out_table::OutTable;
 use rcp_base::{NoMemory, Prefix, Slot};
@@ -205,10 +205,7 @@ impl AdjRibs {
         ensures least { IsLeastDirty self.old slot result }
         ensures after { self.new ≡ after_take slot result self.old }
     {
-        match self.table.take_dirty(slot) {
-            Some((p, _number)) => Some(p),
-            None => None,
-        }
+        prefix_of(&self.table.take_dirty(slot))
     }
 
     /// What `take_dirty` would give. It cleans nothing.
@@ -216,10 +213,7 @@ impl AdjRibs {
         requires { slot < self.now.members }
         ensures { IsLeastDirty self.now slot result }
     {
-        match self.table.least_dirty(slot) {
-            Some((p, _number)) => Some(p),
-            None => None,
-        }
+        prefix_of(&self.table.least_dirty(slot))
     }
 
     /// The least prefix after the given one at which a slot is given a route, or the least of all where none is given. None exactly where there is none.

@@ -1,10 +1,11 @@
-//! The uses of a number that may be there.
+//! The uses of a number that may be there, and parts of what may be there.
 
 ghost use Rattle.std.specs.Prelude.{◌≡◌, IfSome, option_map};
 ghost use Rattle.attr_store.specs.Kept.{IsLive};
 ghost use Rattle.adj_ribs.specs.Joins.{retained_if, released_if};
 
 use attr_store::AttrStore;
+use rcp_base::Prefix;
 use rcp_model::RouteNo;
 use route_store::Announcer;
 
@@ -14,6 +15,16 @@ pub fn number_of(from: &Option<Announcer>) -> Option<RouteNo>
 {
     match from {
         Some(announcer) => Some(announcer.route()),
+        None => None,
+    }
+}
+
+/// The prefix of a cell that is found.
+pub fn prefix_of(found: &Option<(Prefix, Option<RouteNo>)>) -> Option<Prefix>
+    ensures { result ≡ option_map (λ found. found.0) found.now }
+{
+    match found {
+        Some((p, _number)) => Some(*p),
         None => None,
     }
 }

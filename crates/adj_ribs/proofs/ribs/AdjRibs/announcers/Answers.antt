@@ -1,18 +1,24 @@
-use Rattle.std.proofs.Common.{rules, ◌≡◌, ℕ, ◌<◌, ◌↔◌, true, not, Some, None, Ok, IfOk, OnOk, OnErr, IfSome, IsTrue, option_map, is_some, ◌+◌, ◌-◌, ◌*◌, ◌≤◌, length, ◌/◌, ◌%◌, Bool, false, nat_eq, nat_lt, List, [], ◌∷◌, ◌++◌, slice_index_or, slice_set, bit_and, bit_or, Fits, w8, w32, w64, Bor, MutBor}
-use Rattle.std.specs.List.{AllPairs, Contains}
+use Rattle.std.proofs.Common.{◌≡◌, ℕ, Some, sym, ap, ◌∙◌}
 use Rattle.std.specs.FinMap as map_of
-use Rattle.rcp_model.specs.Ribs.{RibKey}
-use Rattle.adj_ribs.specs.Bases.{no_bases, announced_at, given_at, is_opened, is_dirty, is_same, IsNextAnnounced, IsNextOf, IsNextGiven, IsLeastDirty, AreNumbered, IsNumber, IsAnnouncer, route_of, after_change, after_open, after_drop, after_set, after_clear, after_take}
+use Rattle.rcp_model.specs.Ribs.{RouteNumbers}
+use Rattle.adj_ribs.specs.Joins.{routes_of}
+use Rattle.adj_ribs.proofs.JoinLemmas.{numbers_by, announced_by, live_number}
+use Rattle.adj_ribs.proofs.LookLemmas.{announcer_is, announcers_rise, numbered, numbered_by}
 use Rattle.adj_ribs.proofs.ribs.AdjRibs.announcers.Goals as goal
 
--- src/ribs.rt:118:5
 pub returns-clause-each : goal.returns-clause-each
-returns-clause-each c = ?
+returns-clause-each c slot number =
+    let s = c.self.inside in
+    let is = announcer_is s.announcements c.args.p c.announcers.result.now c.announcers.ensures slot number in
+    let same = ap (λ (m : RouteNumbers). map_of.get m (c.args.p, slot)) (numbers_by s.routes s.announcements s.table c.args.self.now c.self.view_is) in
+    (λ one. sym same ∙ is.0 one, λ e. is.1 (same ∙ e))
 
--- src/ribs.rt:118:5
 pub returns-clause-rising : goal.returns-clause-rising
-returns-clause-rising c = ?
+returns-clause-rising c = announcers_rise c.self.inside.announcements c.args.p c.announcers.result.now c.announcers.ensures
 
--- src/ribs.rt:118:5
 pub returns-clause-numbered : goal.returns-clause-numbered
-returns-clause-numbered c = ?
+returns-clause-numbered c =
+    let s = c.self.inside in
+    numbered_by s.announcements c.args.self.now.numbers (routes_of s.routes s.announcements) c.args.self.now.announced
+    (numbers_by s.routes s.announcements s.table c.args.self.now c.self.view_is) (announced_by s.routes s.announcements s.table c.args.self.now c.self.view_is)
+    (numbered s.routes c.self.invariant.once s.announcements (live_number s.routes s.announcements s.table.cells c.self.invariant.counted))

@@ -1,22 +1,30 @@
-use Rattle.std.proofs.Common.{rules, ◌≡◌, ℕ, ◌<◌, ◌↔◌, true, not, Some, None, Ok, IfOk, OnOk, OnErr, IfSome, IsTrue, option_map, is_some, ◌+◌, ◌-◌, ◌*◌, ◌≤◌, length, ◌/◌, ◌%◌, Bool, false, nat_eq, nat_lt, List, [], ◌∷◌, ◌++◌, slice_index_or, slice_set, bit_and, bit_or, Fits, w8, w32, w64, Bor, MutBor}
-use Rattle.std.specs.List.{AllPairs, Contains}
-use Rattle.std.specs.FinMap as map_of
-use Rattle.rcp_model.specs.Ribs.{RibKey}
-use Rattle.adj_ribs.specs.Bases.{no_bases, announced_at, given_at, is_opened, is_dirty, is_same, IsNextAnnounced, IsNextOf, IsNextGiven, IsLeastDirty, AreNumbered, IsNumber, IsAnnouncer, route_of, after_change, after_open, after_drop, after_set, after_clear, after_take}
+use Rattle.std.proofs.Common.{ℕ, ◌<◌, sym, ap, subst, ◌∙◌}
+use Rattle.std.specs.Option.{option_map}
+use Rattle.adj_ribs.specs.Joins.{route_in}
+use Rattle.adj_ribs.proofs.JoinLemmas.{members_by, given_is, live_cell}
+use Rattle.adj_ribs.proofs.LookLemmas.{found_route, none_found}
 use Rattle.adj_ribs.proofs.ribs.AdjRibs.cell.Goals as goal
 
--- src/ribs.rt:189:22
 pub get-requires : goal.get-requires
-get-requires c = ?
+get-requires c =
+    let s = c.self.inside in
+    subst (λ (n : ℕ). c.args.slot < n) (sym (members_by s.routes s.announcements s.table c.args.self.now c.self.view_is)) c.requires
 
--- src/ribs.rt:189:22
 pub returns-in_err-number : goal.returns-in_err-number
-returns-in_err-number c = ?
+returns-in_err-number c =
+    let s = c.self.inside in
+    none_found _ c.from_residual.result c.from_residual.ensures
+    ∙ ap (option_map (route_in s.routes)) c.in_err-number.ensures
+    ∙ given_is s.routes s.announcements s.table c.args.self.now c.self.view_is (c.args.p, c.args.slot)
 
--- src/ribs.rt:190:14
 pub get-requires-2 : goal.get-requires-2
-get-requires-2 c = ?
+get-requires-2 c =
+    let s = c.self.inside in
+    live_cell s.routes s.announcements s.table.cells c.self.invariant.counted (c.args.p, c.args.slot) c.in_ok-number.number (sym c.in_ok-number.ensures)
 
--- src/ribs.rt:185:5
 pub returns : goal.returns
-returns c = ?
+returns c =
+    let s = c.self.inside in
+    found_route s.routes _ c.in_ok-number.number c.get-2.result.now c.in_ok-number.ensures
+    (live_cell s.routes s.announcements s.table.cells c.self.invariant.counted (c.args.p, c.args.slot) c.in_ok-number.number (sym c.in_ok-number.ensures)) c.get-2.ensures.route
+    ∙ given_is s.routes s.announcements s.table c.args.self.now c.self.view_is (c.args.p, c.args.slot)

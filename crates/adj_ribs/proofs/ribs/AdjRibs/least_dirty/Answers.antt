@@ -1,18 +1,17 @@
-use Rattle.std.proofs.Common.{rules, ◌≡◌, ℕ, ◌<◌, ◌↔◌, true, not, Some, None, Ok, IfOk, OnOk, OnErr, IfSome, IsTrue, option_map, is_some, ◌+◌, ◌-◌, ◌*◌, ◌≤◌, length, ◌/◌, ◌%◌, Bool, false, nat_eq, nat_lt, List, [], ◌∷◌, ◌++◌, slice_index_or, slice_set, bit_and, bit_or, Fits, w8, w32, w64, Bor, MutBor}
-use Rattle.std.specs.List.{AllPairs, Contains}
-use Rattle.std.specs.FinMap as map_of
-use Rattle.rcp_model.specs.Ribs.{RibKey}
-use Rattle.adj_ribs.specs.Bases.{no_bases, announced_at, given_at, is_opened, is_dirty, is_same, IsNextAnnounced, IsNextOf, IsNextGiven, IsLeastDirty, AreNumbered, IsNumber, IsAnnouncer, route_of, after_change, after_open, after_drop, after_set, after_clear, after_take}
+use Rattle.std.proofs.Common.{ℕ, ◌<◌, Option, sym, subst}
+use Rattle.rcp_base.specs.IpPrefix.{IpPrefix}
+use Rattle.adj_ribs.specs.Bases.{IsLeastDirty}
+use Rattle.adj_ribs.proofs.JoinLemmas.{members_by, dirty_by}
+use Rattle.adj_ribs.proofs.LookLemmas.{dirty_is}
 use Rattle.adj_ribs.proofs.ribs.AdjRibs.least_dirty.Goals as goal
 
--- src/ribs.rt:219:15
 pub least_dirty-requires : goal.least_dirty-requires
-least_dirty-requires c = ?
+least_dirty-requires c =
+    let s = c.self.inside in
+    subst (λ (n : ℕ). c.args.slot < n) (sym (members_by s.routes s.announcements s.table c.args.self.now c.self.view_is)) c.requires
 
--- src/ribs.rt:215:5
-pub returns-in-Some : goal.returns-in-Some
-returns-in-Some c = ?
-
--- src/ribs.rt:215:5
-pub returns-in-None : goal.returns-in-None
-returns-in-None c = ?
+pub returns : goal.returns
+returns c =
+    let s = c.self.inside in
+    subst (IsLeastDirty c.args.self.now c.args.slot) (sym c.prefix_of.ensures)
+    (dirty_is s.table c.args.self.now c.args.slot _ (dirty_by s.routes s.announcements s.table c.args.self.now c.self.view_is) c.least_dirty.ensures.least)

@@ -1,14 +1,17 @@
-use Rattle.std.proofs.Common.{rules, ◌≡◌, ℕ, ◌<◌, ◌↔◌, true, not, Some, None, Ok, IfOk, OnOk, OnErr, IfSome, IsTrue, option_map, is_some, ◌+◌, ◌-◌, ◌*◌, ◌≤◌, length, ◌/◌, ◌%◌, Bool, false, nat_eq, nat_lt, List, [], ◌∷◌, ◌++◌, slice_index_or, slice_set, bit_and, bit_or, Fits, w8, w32, w64, Bor, MutBor}
-use Rattle.std.specs.List.{AllPairs, Contains}
-use Rattle.std.specs.FinMap as map_of
-use Rattle.rcp_model.specs.Ribs.{RibKey}
-use Rattle.adj_ribs.specs.Bases.{no_bases, announced_at, given_at, is_opened, is_dirty, is_same, IsNextAnnounced, IsNextOf, IsNextGiven, IsLeastDirty, AreNumbered, IsNumber, IsAnnouncer, route_of, after_change, after_open, after_drop, after_set, after_clear, after_take}
+use Rattle.std.proofs.Common.{ℕ, ◌<◌, sym, subst}
+use Rattle.out_table.specs.Tables as tables
+use Rattle.adj_ribs.specs.Bases.{given_at}
+use Rattle.adj_ribs.proofs.JoinLemmas.{members_by}
+use Rattle.adj_ribs.proofs.LookLemmas.{entry_is, there_given}
 use Rattle.adj_ribs.proofs.ribs.AdjRibs.next_cell.Goals as goal
 
--- src/ribs.rt:230:9
 pub next_entry-requires : goal.next_entry-requires
-next_entry-requires c = ?
+next_entry-requires c =
+    let s = c.self.inside in
+    subst (λ (n : ℕ). c.args.slot < n) (sym (members_by s.routes s.announcements s.table c.args.self.now c.self.view_is)) c.requires
 
--- src/ribs.rt:226:5
 pub returns : goal.returns
-returns c = ?
+returns c =
+    let s = c.self.inside in
+    entry_is c.args.after (tables.cell s.table c.args.slot) (given_at c.args.self.now c.args.slot)
+    (λ q. there_given s.routes s.announcements s.table c.args.self.now c.self.view_is (q, c.args.slot)) c.next_entry.result c.next_entry.ensures

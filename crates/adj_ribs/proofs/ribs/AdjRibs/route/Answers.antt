@@ -1,14 +1,20 @@
-use Rattle.std.proofs.Common.{rules, ◌≡◌, ℕ, ◌<◌, ◌↔◌, true, not, Some, None, Ok, IfOk, OnOk, OnErr, IfSome, IsTrue, option_map, is_some, ◌+◌, ◌-◌, ◌*◌, ◌≤◌, length, ◌/◌, ◌%◌, Bool, false, nat_eq, nat_lt, List, [], ◌∷◌, ◌++◌, slice_index_or, slice_set, bit_and, bit_or, Fits, w8, w32, w64, Bor, MutBor}
-use Rattle.std.specs.List.{AllPairs, Contains}
+use Rattle.std.proofs.Common.{sym, ap, ◌∙◌}
 use Rattle.std.specs.FinMap as map_of
-use Rattle.rcp_model.specs.Ribs.{RibKey}
-use Rattle.adj_ribs.specs.Bases.{no_bases, announced_at, given_at, is_opened, is_dirty, is_same, IsNextAnnounced, IsNextOf, IsNextGiven, IsLeastDirty, AreNumbered, IsNumber, IsAnnouncer, route_of, after_change, after_open, after_drop, after_set, after_clear, after_take}
+use Rattle.rcp_model.specs.Ribs.{RouteNumbers}
+use Rattle.adj_ribs.proofs.JoinLemmas.{numbers_by, announced_is, live_number}
+use Rattle.adj_ribs.proofs.LookLemmas.{found_route}
 use Rattle.adj_ribs.proofs.ribs.AdjRibs.route.Goals as goal
 
--- src/ribs.rt:131:9
 pub get-requires : goal.get-requires
-get-requires c = ?
+get-requires c =
+    let s = c.self.inside in
+    live_number s.routes s.announcements s.table.cells c.self.invariant.counted c.requires.0 c.args.number
+    (ap (λ (m : RouteNumbers). map_of.get m c.requires.0) (numbers_by s.routes s.announcements s.table c.args.self.now c.self.view_is) ∙ c.requires.1)
 
--- src/ribs.rt:127:5
 pub returns : goal.returns
-returns c = ?
+returns c key here =
+    let s = c.self.inside in
+    let own = ap (λ (m : RouteNumbers). map_of.get m key) (numbers_by s.routes s.announcements s.table c.args.self.now c.self.view_is) ∙ here in
+    sym (found_route s.routes _ c.args.number c.get.result.now (sym own)
+    (live_number s.routes s.announcements s.table.cells c.self.invariant.counted key c.args.number own) c.get.ensures.route
+    ∙ announced_is s.routes s.announcements s.table c.args.self.now c.self.view_is key)
