@@ -4,3 +4,4 @@ pub mod JoinLemmas
 pub mod AnnounceLemmas
 pub mod ChangeLemmas
 pub mod LookLemmas
+pub mod DropLemmas

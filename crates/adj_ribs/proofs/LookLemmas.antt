@@ -111,7 +111,7 @@ pub least_is : (test : IpPrefix → Bool) (Q : IpPrefix → Type 0) → ((q : Ip
 least_is test Q to from None none = λ q holds. let no : true ≡ false = sym (from q holds) ∙ none q in absurd cc
 least_is test Q to from (Some p) least = (to p least.0, λ q holds less. not_le p q less (least.1 q (from q holds)))
 
-lt_less : (o : Ordering) → is_lt o ≡ true → o ≡ Less
+pub lt_less : (o : Ordering) → is_lt o ≡ true → o ≡ Less
 lt_less Less e = refl
 lt_less Equal e = absurd (let f = e in cc)
 lt_less Greater e = absurd (let f = e in cc)

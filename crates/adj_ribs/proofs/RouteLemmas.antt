@@ -166,6 +166,9 @@ released_narrows routes n m = at_kept (map_of.get routes n) refl where
 
 -- ---- the same route before and after
 
+pub narrows_live : (old new : KeptRoutes) → Narrows old new → (m : ℕ) → IsLive new m → IsLive old m
+narrows_live old new narrows m live = live_route old m (route_in new m) (sym (narrows m live) ∙ sym (in_route new m live))
+
 -- a number that is live before and afterwards has the same route
 abbrev pub Carries : KeptRoutes → KeptRoutes → Type 0
 Carries old new = (m : ℕ) → IsLive old m → IsLive new m → route_in new m ≡ route_in old m

@@ -38,7 +38,7 @@ one_at number value = cond (is_number number value) 1 0
 abbrev hold : ℕ → Option ℕ → Option ℕ
 hold number value = cond (is_number number value) value None
 
-abbrev there : {V : Type 0} → Option V → ℕ
+abbrev pub there : {V : Type 0} → Option V → ℕ
 there value = cond (is_some value) 1 0
 
 get_holders : (number : ℕ) (numbers : RouteNumbers) (k : RibKey) → map_of.get (holders number numbers) k ≡ hold number (map_of.get numbers k)
@@ -63,7 +63,7 @@ some_len {V} rib key held = at_len (map_of.len rib) refl where
       let no : true ≡ false = sym held ∙ ap is_some none in absurd cc
   at_len (suc n) e = omega arith
 
-len_with : {V : Type 0} (key : RibKey) (value : Option V) (rib : Rib V)
+pub len_with : {V : Type 0} (key : RibKey) (value : Option V) (rib : Rib V)
     → map_of.len (with_value key value rib) + there (map_of.get rib key) ≡ map_of.len rib + there value
 len_with {V} key None rib = ap (λ n. n + there (map_of.get rib key)) (map_of.len-remove rib_total rib key) ∙ at_test (is_some (map_of.get rib key)) (some_len rib key) where
   at_test : (b : Bool) → (b ≡ true → 0 < map_of.len rib) → cond b (map_of.len rib - 1) (map_of.len rib) + cond b 1 0 ≡ map_of.len rib + 0

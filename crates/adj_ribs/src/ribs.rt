@@ -1,6 +1,6 @@
 //! The joined stores.
 
-ghost use Rattle.std.specs.Prelude.{◌≡◌, ℕ, ◌<◌, ◌↔◌, true, not, Some, None, Ok, IfOk, OnOk, OnErr, IfSome, IsTrue, option_map, is_some};
+ghost use Rattle.std.specs.Prelude.{◌≡◌, ℕ, ◌<◌, ◌↔◌, true, not, Some, None, Ok, IfOk, OnOk, OnErr, IfSome, IfNone, IsSome, option_map, is_some};
 ghost use Rattle.std.specs.List.{AllPairs, Contains};
 ghost use Rattle.std.specs.FinMap as map_of;
 ghost use Rattle.rcp_model.specs.Ribs.{RibKey};
@@ -101,7 +101,7 @@ impl AdjRibs {
     pub fn drop_all(&mut self, slot: Slot)
         ensures { self.new ≡ after_drop slot self.old }
     {
-        while let Some(p) = self.next_of(slot, None) {
+        while let Some(p) = self.first_of(slot) {
             self.withdraw(slot, p);
         }
     }
@@ -222,5 +222,13 @@ impl AdjRibs {
         ensures { IsNextGiven self.now slot after result }
     {
         self.table.next_entry(slot, after)
+    }
+
+    /// The least prefix that a slot announces. Where there is none, the slot has nothing to drop.
+    fn first_of(&self, slot: Slot) -> Option<Prefix>
+        ensures some { IfSome result (λ p. IsSome (announced_at self.now slot p)) }
+        ensures none { IfNone result (after_drop slot self.now ≡ self.now) }
+    {
+        self.announcements.next_of(slot, None)
     }
 }
