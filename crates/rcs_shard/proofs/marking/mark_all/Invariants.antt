@@ -1,0 +1,8 @@
+use Rattle.std.proofs.Common.{◌≡◌, true, ◌&&◌, ltb, length}
+use Rattle.std.specs.FinSet as set_of
+use Rattle.rcp_model.specs.RouteServer.{cost_differs}
+use Rattle.rcs_shard.proofs.MarkingLemmas.{marked_below}
+use Rattle.rcs_shard.proofs.marking.mark_all.Given as goal
+
+abbrev pub invariant-loop-slot : goal.invariant-loop-slot
+invariant-loop-slot l = l.pending ≡ marked_below l.ribs (λ e. true) l.slot l.initial.pending

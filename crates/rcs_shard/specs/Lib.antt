@@ -1,0 +1,4 @@
+pub mod Shards
+pub mod Slots
+pub mod Joins
+pub mod Settling
