@@ -12,7 +12,7 @@ use Rattle.rcp_base.specs.IpPrefix.{IpPrefix, prefix_cmp}
 use Rattle.rcp_model.specs.Ribs.{RibKey, RouteNumbers, rib_cmp}
 use Rattle.rcp_model.specs.Routes.{RouteFields}
 use Rattle.rcp_model.specs.ServerRibs.{Rib, with_value, without_slot}
-use Rattle.rcp_model.specs.Maps.{same_prefix}
+use Rattle.rcp_base.specs.Maps.{same_prefix}
 use Rattle.rcp_model.proofs.RibLemmas.{rib_total, rib_exact, prefix_total, prefix_exact}
 use Rattle.rib_laws.proofs.RibLookups.{same_test, get-with_value, get-without_slot, get-retained}
 use Rattle.attr_store.specs.Kept.{KeptRoutes, IsLive, HasEachOnce}

@@ -7,7 +7,7 @@ use Rattle.std.specs.Ordering.{nat_cmp, eq_by_cmp}
 use Rattle.std.proofs.lemmas.Bool.{eq-eqb, eqb-true, eqb-false, and_parts, and_from}
 use Rattle.std.proofs.lemmas.Bool.Decides.{nat_tests}
 use Rattle.std.proofs.lemmas.Cmp.{nat_cmp_total}
-use Rattle.rcp_model.specs.Maps.{same_prefix}
+use Rattle.rcp_base.specs.Maps.{same_prefix}
 use Rattle.rcp_model.specs.Ribs.{RibKey, rib_cmp, RouteNumbers}
 use Rattle.rcp_model.specs.Routes.{RouteFields}
 use Rattle.rcp_model.specs.ServerRibs.{Rib, with_value}

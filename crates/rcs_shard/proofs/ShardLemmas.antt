@@ -9,15 +9,15 @@ use Rattle.std.specs.Cmp.{unsigned_tied}
 use Rattle.std.proofs.lemmas.Cmp.{nat_cmp_total}
 use Rattle.std.proofs.lemmas.Bool.{false≢true, and_parts, and_from, or_cases, or_left, or_right, eqb-true, eq-eqb, lt-ltb, not-false, not-true}
 use Rattle.rcp_base.specs.IpPrefix.{IpPrefix, prefix_cmp}
-use Rattle.rcp_model.specs.Maps.{same_prefix}
-use Rattle.rcp_model.specs.declared.event.Edge.{Edge}
+use Rattle.rcp_base.specs.Maps.{same_prefix}
+use Rattle.rcp_base.specs.declared.names.Edge.{Edge}
 use Rattle.rcp_base.specs.declared.names.Member.{Member}
 use Rattle.rcp_model.specs.Routes.{RouteFields, is_usable}
 use Rattle.rcp_model.specs.Ribs.{RibKey, rib_cmp}
 use Rattle.rcp_model.specs.Decision.{Contender, tied, choice}
 use Rattle.rcp_model.specs.RouteServer.{slot_cost, cost_differs}
 use Rattle.rcp_model.specs.ServerRibs.{Values, Rib, Reader, route_reader, same_route, same_values, RibEvent, Up, Down, Change, Links, Work, at_prefix, is_up, with_value, without_slot, with_each, prefixes_of, of_other, offer_of, ribs_after}
-use Rattle.rcp_model.proofs.MapLemmas.{same_prefix-is}
+use Rattle.rcp_base.proofs.MapLemmas.{same_prefix-is}
 use Rattle.rcp_model.proofs.MemberLemmas.{Contains-filled, Contains-head}
 use Rattle.rcp_model.proofs.FilterLemmas.{choice-nil, choice_is_tied, member_of_tied}
 use Rattle.rcp_model.proofs.RibLemmas.{prefix_total, prefix_exact, rib_total, rib_exact}
