@@ -1,5 +1,5 @@
 -- The canonical form, type by type: sorting leaves the attributes of a type in their order.
-use Rattle.std.proofs.Common.{◌≡◌, ◌≢◌, ◌⊎◌, ℕ, ◌+◌, Bool, true, false, cond, ◌&&◌, inl, inr, Contains, List, [], ◌∷◌, map, Some, refl, sym, ap, ◌∙◌, subst, arith, eqb, ltb, leb, eqb-true, ne_eqb, ltb-true}
+use Rattle.std.proofs.Common.{◌≡◌, ◌≢◌, ◌⊎◌, ℕ, ◌+◌, Bool, true, false, cond, ◌&&◌, inl, inr, Contains, List, [], ◌∷◌, map, Some, refl, sym, ap, ◌∙◌, subst, arith, eqb, ltb, eqb-true, ne_eqb, ltb-true}
 use Rattle.std.specs.Prelude.{filter, is_some}
 use Rattle.std.proofs.lemmas.Bool.{cases_Bool}
 use Rattle.rcp_model.specs.Attributes.{Attribute, LOCAL_PREF, MULTI_EXIT_DISC, is_recognised, is_optional, is_transitive, is_partial, category, keeps_partial, value_of, is_kept, written, insert_by_type, by_type, default_pref, with_pref, canonical}

@@ -10,7 +10,7 @@ use Rattle.rcp_base.specs.declared.kinds.FeedWhy.TheVariants as why
 use Rattle.rcp_base.specs.Feed.{FeedRecord, moment_of, has_length}
 use Rattle.rcp_base.specs.Roster.{RosterOf}
 use Rattle.rcp_base.specs.declared.names.Edge.{Edge}
-use Rattle.rcp_model.specs.LinkState.{LinkState, aged}
+use Rattle.rcp_model.specs.LinkState.{aged}
 use Rattle.rcp_model.specs.Edges.{rising_edges, edges_of}
 use Rattle.rcp_model.specs.RouteServer.{Server, Links, after}
 use Rattle.rcp_model.proofs.LinkEventLemmas.{links-same}

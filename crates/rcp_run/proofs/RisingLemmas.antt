@@ -1,11 +1,10 @@
 -- Sets of prefixes as rising lists: one more at its place.
-use Rattle.std.proofs.Common.{◌≡◌, ℕ, zero, suc, ◌+◌, ◌<◌, Bool, true, false, ◌&&◌, ◌||◌, eqb, ltb, List, [], ◌∷◌, ◌++◌, length, get_or, drop, Some, None, refl, sym, ap, ◌∙◌, inl, inr, arith, add-one}
-use Rattle.std.specs.List.{list_any, position, insert, AllByRecursion}
+use Rattle.std.proofs.Common.{◌≡◌, ℕ, zero, suc, ◌+◌, ◌<◌, Bool, true, false, ◌||◌, List, [], ◌∷◌, ◌++◌, length, get_or, drop, Some, None, refl, sym, ap, ◌∙◌, inl, inr, add-one}
+use Rattle.std.specs.List.{list_any, position, insert}
 use Rattle.std.proofs.Math.Seq.{drop-cons}
-use Rattle.std.proofs.lemmas.Bool.{cases_Bool, or_parts, or_cases, or_from, both_ways}
-use Rattle.std.proofs.lemmas.Bool.Decides.{nat_tests}
+use Rattle.std.proofs.lemmas.Bool.{or_parts, or_cases, both_ways}
 use Rattle.rcp_base.specs.IpPrefix.{IpPrefix}
-use Rattle.rcp_base.specs.Maps.{same_prefix, is_before, include, include_all, is_among}
+use Rattle.rcp_base.specs.Maps.{same_prefix, is_before, include, include_all}
 use Rattle.rcp_model.specs.RouteServer.{announced_prefixes}
 use Rattle.rcp_base.proofs.MapLemmas.{same_prefix-is, same_prefix-itself}
 use Rattle.rcp_run.specs.declared.announcements.Announcement.{Announcement}

@@ -6,9 +6,9 @@ use Rattle.rcp_base.specs.IpPrefix.{IpPrefix}
 use Rattle.rcp_base.specs.Feed.{OutRecord}
 use Rattle.rcp_base.specs.declared.names.Member.{Member}
 use Rattle.rcp_base.specs.Roster.{RosterOf}
-use Rattle.rcp_base.specs.Maps.{get_at, set_at, same_prefix, is_before}
+use Rattle.rcp_base.specs.Maps.{get_at, set_at, same_prefix}
 use Rattle.rcp_model.specs.Rising.{IsRising}
-use Rattle.rcp_model.specs.LinkState.{LinkState, same_number}
+use Rattle.rcp_model.specs.LinkState.{same_number}
 use Rattle.feed_meaning.specs.LinkStream.{Reading}
 use Rattle.feed_meaning.specs.Platform.{Connections, Platform, domain_of}
 use Rattle.feed_meaning.specs.Work.{cell_update}

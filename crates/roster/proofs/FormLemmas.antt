@@ -1,6 +1,5 @@
 -- What is named stays in form, line after line.
-use Rattle.std.proofs.Common.{◌≡◌, ◌≢◌, ℕ, ◌<◌, ◌≤◌, Bool, true, false, not, cond, eqb, nat_le, ◌&&◌, ◌||◌, List, [], ◌∷◌, ◌++◌, length, get_or, All, Option, Some, None, is_some, IfSome, Result, Ok, Err, IfOk, option_and_then, refl, sym, ap, subst, ◌∙◌, true≢false, arith, length-append, append_assoc, map, bytes_eq, codes}
-use Rattle.std.proofs.lemmas.List.{length-map, get_or-map}
+use Rattle.std.proofs.Common.{◌≡◌, ◌≢◌, ℕ, ◌<◌, ◌≤◌, Bool, true, false, not, cond, eqb, nat_le, ◌&&◌, ◌||◌, List, [], ◌∷◌, ◌++◌, length, get_or, All, Option, Some, None, is_some, IfSome, Result, Ok, Err, IfOk, option_and_then, refl, sym, ap, subst, ◌∙◌, true≢false, arith, length-append, append_assoc, bytes_eq, codes}
 use Rattle.std.proofs.lemmas.Bool.{cond_both, eqb-false, eq-eqb, leb-true, leb-false}
 use Rattle.std.proofs.lemmas.Option.{IfSome_then}
 use Rattle.std.proofs.lemmas.List.Folds.{list_any-append, list_any_at}
