@@ -135,15 +135,21 @@ module _ (routes : KeptRoutes) (numbers : RouteNumbers) (table : Table) (joined 
     unfolding bases_of
     bases_set =
         let announced = routes_same routes routes2 numbers
-            (λ k m here. carries m (live_number routes numbers table.cells joined.counted k m here) (live_number routes2 numbers after counted k m here)) in
+        (λ k m here. carries m (live_number routes numbers table.cells joined.counted k m here) (live_number routes2 numbers after counted k m here)) in
         let given = ap (routes_of routes2) cells_now ∙ routes_with routes routes2 table.cells (p, to) value
-            (λ k m other here. carries m (live_cell routes numbers table.cells joined.counted k m here)
-            (live_cell routes2 numbers after counted k m (get-with_value (p, to) value table.cells k ∙ ap (λ (b : Bool). cond b value (map_of.get table.cells k)) other ∙ here)))
-            ∙ ap (λ (o : Option RouteFields). with_value (p, to) o (routes_of routes table.cells)) (route_later value live_value refl ∙ route_here) in
+        (λ k m other here. carries m (live_cell routes numbers table.cells joined.counted k m here)
+        (live_cell routes2 numbers after counted k m (get-with_value (p, to) value table.cells k ∙ ap (λ (b : Bool). cond b value (map_of.get table.cells k)) other ∙ here)))
+        ∙ ap (λ (o : Option RouteFields). with_value (p, to) o (routes_of routes table.cells)) (route_later value live_value refl ∙ route_here) in
         let dirty = ap (λ (b : Bool). cond b table.dirty (set_of.insert table.dirty (p, to))) test_here in
         let numbers_now = cells_now ∙ ap (λ (o : Option ℕ). with_value (p, to) o table.cells) value_is in
         λ i. record {
-          members = table.members; announced = announced i; given = given i; dirty = dirty i; opened = table.opened; numbers = numbers; cell_numbers = numbers_now i;
+          members = table.members;
+          announced = announced i;
+          given = given i;
+          dirty = dirty i;
+          opened = table.opened;
+          numbers = numbers;
+          cell_numbers = numbers_now i;
         }
       where
         route_here : option_map (route_in routes) value ≡ route_of (bases_of routes numbers table) p from

@@ -89,9 +89,9 @@ module _ (routes : KeptRoutes) (numbers : RouteNumbers) (table : Table) (b : Bas
   pub nothing_left : after_drop slot b ≡ b
   nothing_left =
       let announced : without_slot slot b.announced ≡ b.announced =
-          ap (without_slot slot) (sym (announced_by routes numbers table b view)) ∙ sym announced_left ∙ announced_by routes numbers table b view in
+      ap (without_slot slot) (sym (announced_by routes numbers table b view)) ∙ sym announced_left ∙ announced_by routes numbers table b view in
       let numbers : without_slot slot b.numbers ≡ b.numbers =
-          ap (without_slot slot) (sym (numbers_by routes numbers table b view)) ∙ sym numbers_left ∙ numbers_by routes numbers table b view in
+      ap (without_slot slot) (sym (numbers_by routes numbers table b view)) ∙ sym numbers_left ∙ numbers_by routes numbers table b view in
       λ i. record b { announced = announced i; numbers = numbers i }
 
 pub first_some : (numbers : RouteNumbers) (slot : ℕ) (b : Bases) → ((q : IpPrefix) → is_some (map_of.get numbers (q, slot)) ≡ is_some (announced_at b slot q)) → (o : Option IpPrefix)
@@ -269,14 +269,19 @@ module _ (routes routes' : KeptRoutes) (numbers cells : RouteNumbers) (slot : �
     unfolding bases_of
     bases_end =
         let announced = routes_same routes routes' numbers
-            (λ k m here. carries_end m (live_number routes numbers table.cells joined.counted k m here) (live_number routes' numbers (without_slot slot table.cells) counted_end k m here)) in
+        (λ k m here. carries_end m (live_number routes numbers table.cells joined.counted k m here) (live_number routes' numbers (without_slot slot table.cells) counted_end k m here)) in
         let given = routes_without routes routes' table.cells slot
-            (λ k m other here. carries_end m (live_cell routes numbers table.cells joined.counted k m here)
-            (live_cell routes' numbers (without_slot slot table.cells) counted_end k m
-            (get-without_slot slot table.cells k ∙ ap (λ (b : Bool). cond b None (map_of.get table.cells k)) other ∙ here))) in
+        (λ k m other here. carries_end m (live_cell routes numbers table.cells joined.counted k m here)
+        (live_cell routes' numbers (without_slot slot table.cells) counted_end k m
+        (get-without_slot slot table.cells k ∙ ap (λ (b : Bool). cond b None (map_of.get table.cells k)) other ∙ here))) in
         λ i. record {
-          members = table.members; announced = announced i; given = given i; dirty = set_of.retain table.dirty (λ key. not (key.1 == slot)); opened = table.opened;
-          numbers = numbers; cell_numbers = without_slot slot table.cells;
+          members = table.members;
+          announced = announced i;
+          given = given i;
+          dirty = set_of.retain table.dirty (λ key. not (key.1 == slot));
+          opened = table.opened;
+          numbers = numbers;
+          cell_numbers = without_slot slot table.cells;
         }
 
     pub bases_cleared : (table2 : Table) → table2 ≡ tables.cleared slot table → (b : Bases) → bases_of routes numbers table ≡ b → bases_of routes' numbers table2 ≡ after_clear slot b

@@ -69,7 +69,7 @@ module _ (routes : KeptRoutes) (once : HasEachOnce routes) (numbers : RouteNumbe
     alike = λ a b. (
       λ e. get_routes routes numbers a ∙ ap (option_map (route_in routes)) e ∙ sym (get_routes routes numbers b),
       λ e. same_value (map_of.get numbers a) (map_of.get numbers b) (live_at a (map_of.get numbers a) refl) (live_at b (map_of.get numbers b) refl)
-      (sym (get_routes routes numbers a) ∙ e ∙ get_routes routes numbers b),
+          (sym (get_routes routes numbers a) ∙ e ∙ get_routes routes numbers b),
     );
   }
 
