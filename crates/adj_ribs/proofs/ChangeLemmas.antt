@@ -1,13 +1,13 @@
 -- An announcement is withdrawn, and a cell is set.
-use Rattle.std.proofs.Common.{◌≡◌, ℕ, Bool, true, false, cond, not, Option, Some, None, is_some, IsSome, IfSome, refl, sym, ap, subst, ◌∙◌, arith}
+use Rattle.std.proofs.Common.{◌≡◌, ℕ, Bool, true, false, cond, not, Option, Some, None, is_some, IfSome, refl, sym, ap, subst, ◌∙◌, arith}
 use Rattle.std.specs.Option.{option_map}
 use Rattle.std.specs.FinMap as map_of
 use Rattle.std.specs.FinSet as set_of
 use Rattle.std.proofs.lemmas.Bool.{eqb-true}
 use Rattle.rcp_base.specs.IpPrefix.{IpPrefix}
-use Rattle.rcp_model.specs.Ribs.{RibKey, RouteNumbers, rib_cmp}
+use Rattle.rcp_model.specs.Ribs.{RibKey, RouteNumbers}
 use Rattle.rcp_model.specs.Routes.{RouteFields}
-use Rattle.rcp_model.specs.ServerRibs.{Rib, Prefixes, with_value}
+use Rattle.rcp_model.specs.ServerRibs.{with_value}
 use Rattle.rcp_model.proofs.RibLemmas.{rib_total, rib_exact}
 use Rattle.rib_laws.proofs.RibLookups.{get-with_value}
 use Rattle.attr_store.specs.Kept.{KeptRoutes, IsLive, HasEachOnce}
@@ -18,7 +18,7 @@ use Rattle.adj_ribs.specs.Bases.{Bases, announced_at, given_at, is_same, route_o
 use Rattle.adj_ribs.specs.Joins.{route_in, routes_of, bases_of, held_by, retained_if, released_if, IsCounted, AreOpened, AreJoined}
 use Rattle.adj_ribs.proofs.UseLemmas.{is_key, key_is, is_key-itself, plus, counted_same, counted_retained_if, counted_released_if, live_if, counted_numbers, counted_cells}
 use Rattle.adj_ribs.proofs.RouteLemmas.{Carries, carries_through, widens_itself, retained_widens_if, retained_once_if, once_narrowed, released_narrows_if, routes_same, routes_with, numbers_alike}
-use Rattle.adj_ribs.proofs.JoinLemmas.{members_by, opened_by, numbers_by, announced_is, given_is, live_number, live_cell, opened_with, bases_changed}
+use Rattle.adj_ribs.proofs.JoinLemmas.{numbers_by, announced_is, given_is, live_number, live_cell, opened_with, bases_changed}
 
 -- ---- an announcement is withdrawn
 

@@ -1,6 +1,5 @@
 -- All that a slot announces, or is given, goes.
-use Rattle.std.proofs.Common.{◌≡◌, ℕ, ◌+◌, ◌<◌, ◌==◌, ◌&&◌, ◌||◌, Bool, true, false, cond, not, eqb, Option, Some, None, is_some, IsSome, IfSome, IfNone, refl, sym, ap, subst, ◌∙◌, arith}
-use Rattle.std.specs.Option.{option_map}
+use Rattle.std.proofs.Common.{◌≡◌, ℕ, ◌<◌, ◌==◌, ◌&&◌, ◌||◌, Bool, true, false, cond, not, eqb, Option, Some, None, is_some, IsSome, IfSome, IfNone, refl, sym, ap, subst, ◌∙◌, arith}
 use Rattle.std.specs.FinMap as map_of
 use Rattle.std.specs.FinSet as set_of
 use Rattle.std.specs.Ordering.{is_lt, is_le}
@@ -9,8 +8,7 @@ use Rattle.std.specs.declared.cmp.Ordering.{Ordering}
 use Rattle.std.specs.declared.cmp.Ordering.TheVariants.{Less, Equal, Greater}
 use Rattle.std.proofs.lemmas.Bool.{eq-eqb, eqb-true, and_parts, and_from}
 use Rattle.rcp_base.specs.IpPrefix.{IpPrefix, prefix_cmp}
-use Rattle.rcp_model.specs.Ribs.{RibKey, RouteNumbers, rib_cmp}
-use Rattle.rcp_model.specs.Routes.{RouteFields}
+use Rattle.rcp_model.specs.Ribs.{RibKey, RouteNumbers}
 use Rattle.rcp_model.specs.ServerRibs.{Rib, with_value, without_slot}
 use Rattle.rcp_model.specs.Maps.{same_prefix}
 use Rattle.rcp_model.proofs.RibLemmas.{rib_total, rib_exact, prefix_total, prefix_exact}
@@ -22,7 +20,7 @@ use Rattle.route_store.proofs.DropLemmas.{all_dropped}
 use Rattle.out_table.specs.Tables as tables
 use Rattle.out_table.specs.Tables.{Table}
 use Rattle.adj_ribs.specs.Bases.{Bases, announced_at, after_change, after_drop, after_take, after_clear}
-use Rattle.adj_ribs.specs.Joins.{route_in, routes_of, bases_of, held_by, released_if, IsCounted, AreOpened, AreJoined}
+use Rattle.adj_ribs.specs.Joins.{routes_of, bases_of, held_by, released_if, IsCounted, AreJoined}
 use Rattle.adj_ribs.proofs.UseLemmas.{is_key, key_is, is_key-itself, len_with, there, plus, counted_same, counted_released_if, counted_cells, live_if}
 use Rattle.adj_ribs.proofs.RouteLemmas.{Narrows, Carries, routes_without, routes_same, once_narrowed, narrows_live, released_narrows_if, same_in}
 use Rattle.adj_ribs.proofs.LookLemmas.{lt_less}

@@ -6,7 +6,7 @@ use Rattle.std.specs.Option.{option_map}
 use Rattle.std.specs.FinMap as map_of
 use Rattle.std.specs.FinMap.Entries.{find, is_sorted, below_all}
 use Rattle.std.specs.FinSet as set_of
-use Rattle.std.specs.Ordering.{nat_cmp, eq_by_cmp, is_lt, is_le, is_gt}
+use Rattle.std.specs.Ordering.{nat_cmp, is_lt, is_le, is_gt}
 use Rattle.std.specs.Cmp.{unsigned_tied, ranked}
 use Rattle.std.specs.declared.cmp.Ordering.{Ordering}
 use Rattle.std.specs.declared.cmp.Ordering.TheVariants.{Less, Equal, Greater}
