@@ -1,22 +1,22 @@
 -- An announcement is made, or refused for want of memory.
-use Rattle.std.proofs.Common.{◌≡◌, ℕ, ◌||◌, Bool, true, false, cond, not, Option, Some, None, is_some, IsSome, IfSome, refl, sym, ap, subst, ◌∙◌}
+use Rattle.std.proofs.Common.{◌≡◌, ℕ, ◌||◌, Bool, true, false, cond, not, Option, Some, None, is_some, IfSome, refl, sym, ap, subst, ◌∙◌}
 use Rattle.std.specs.Prelude.{nat_eq}
 use Rattle.std.specs.Option.{option_map, option_eq}
 use Rattle.std.specs.FinMap as map_of
 use Rattle.std.specs.FinSet as set_of
-use Rattle.rcp_base.specs.IpPrefix.{IpPrefix, prefix_cmp}
-use Rattle.rcp_model.specs.Ribs.{RibKey, RouteNumbers, rib_cmp}
+use Rattle.rcp_base.specs.IpPrefix.{IpPrefix}
+use Rattle.rcp_model.specs.Ribs.{RibKey, RouteNumbers}
 use Rattle.rcp_model.specs.Routes.{RouteFields}
-use Rattle.rcp_model.specs.ServerRibs.{Rib, Prefixes, with_value}
-use Rattle.rcp_model.proofs.RibLemmas.{rib_total, rib_exact, prefix_total, prefix_exact}
+use Rattle.rcp_model.specs.ServerRibs.{Prefixes, with_value}
+use Rattle.rcp_model.proofs.RibLemmas.{rib_total, rib_exact, prefix_total}
 use Rattle.rib_laws.proofs.RibLookups.{get-with_value}
 use Rattle.attr_store.specs.Kept.{KeptRoutes, route_at, IsLive, HasEachOnce, used, released}
 use Rattle.out_table.specs.Cells as cells
 use Rattle.out_table.specs.Tables.{Table, opened, is_opened}
 use Rattle.adj_ribs.specs.Bases.{Bases, announced_at, is_same, after_change, after_open}
-use Rattle.adj_ribs.specs.Joins.{route_in, routes_of, bases_of, held_by, released_if, IsCounted, AreOpened, AreJoined}
+use Rattle.adj_ribs.specs.Joins.{route_in, bases_of, held_by, released_if, IsCounted, AreOpened, AreJoined}
 use Rattle.adj_ribs.proofs.UseLemmas.{is_key, key_is, is_key-itself, plus, counted_used, counted_released, counted_released_if, live_if, counted_numbers}
-use Rattle.adj_ribs.proofs.RouteLemmas.{Widens, Narrows, Carries, carries_through, used_widens, used_at, used_own, once_narrowed, released_narrows, released_narrows_if, same_in, numbers_alike}
+use Rattle.adj_ribs.proofs.RouteLemmas.{Widens, carries_through, used_widens, used_at, used_own, once_narrowed, released_narrows, released_narrows_if, same_in, numbers_alike}
 use Rattle.adj_ribs.proofs.JoinLemmas.{announced_is, numbers_by, bases_opened, eq_itself, live_number, opened_more, opened_with, bases_same, bases_changed}
 
 -- what stands nowhere is put and taken out again

@@ -1,13 +1,13 @@
 -- An announcement is withdrawn, and a cell is set.
-use Rattle.std.proofs.Common.{◌≡◌, ℕ, Bool, true, false, cond, not, Option, Some, None, is_some, IsSome, IfSome, refl, sym, ap, subst, ◌∙◌, arith}
+use Rattle.std.proofs.Common.{◌≡◌, ℕ, Bool, true, false, cond, not, Option, Some, None, is_some, IfSome, refl, sym, ap, subst, ◌∙◌, arith}
 use Rattle.std.specs.Option.{option_map}
 use Rattle.std.specs.FinMap as map_of
 use Rattle.std.specs.FinSet as set_of
 use Rattle.std.proofs.lemmas.Bool.{eqb-true}
 use Rattle.rcp_base.specs.IpPrefix.{IpPrefix}
-use Rattle.rcp_model.specs.Ribs.{RibKey, RouteNumbers, rib_cmp}
+use Rattle.rcp_model.specs.Ribs.{RibKey, RouteNumbers}
 use Rattle.rcp_model.specs.Routes.{RouteFields}
-use Rattle.rcp_model.specs.ServerRibs.{Rib, Prefixes, with_value}
+use Rattle.rcp_model.specs.ServerRibs.{with_value}
 use Rattle.rcp_model.proofs.RibLemmas.{rib_total, rib_exact}
 use Rattle.rib_laws.proofs.RibLookups.{get-with_value}
 use Rattle.attr_store.specs.Kept.{KeptRoutes, IsLive, HasEachOnce}
@@ -18,7 +18,7 @@ use Rattle.adj_ribs.specs.Bases.{Bases, announced_at, given_at, is_same, route_o
 use Rattle.adj_ribs.specs.Joins.{route_in, routes_of, bases_of, held_by, retained_if, released_if, IsCounted, AreOpened, AreJoined}
 use Rattle.adj_ribs.proofs.UseLemmas.{is_key, key_is, is_key-itself, plus, counted_same, counted_retained_if, counted_released_if, live_if, counted_numbers, counted_cells}
 use Rattle.adj_ribs.proofs.RouteLemmas.{Carries, carries_through, widens_itself, retained_widens_if, retained_once_if, once_narrowed, released_narrows_if, routes_same, routes_with, numbers_alike}
-use Rattle.adj_ribs.proofs.JoinLemmas.{members_by, opened_by, numbers_by, announced_is, given_is, live_number, live_cell, opened_with, bases_changed}
+use Rattle.adj_ribs.proofs.JoinLemmas.{numbers_by, announced_is, given_is, live_number, live_cell, opened_with, bases_changed}
 
 -- ---- an announcement is withdrawn
 
@@ -135,15 +135,21 @@ module _ (routes : KeptRoutes) (numbers : RouteNumbers) (table : Table) (joined 
     unfolding bases_of
     bases_set =
         let announced = routes_same routes routes2 numbers
-            (λ k m here. carries m (live_number routes numbers table.cells joined.counted k m here) (live_number routes2 numbers after counted k m here)) in
+        (λ k m here. carries m (live_number routes numbers table.cells joined.counted k m here) (live_number routes2 numbers after counted k m here)) in
         let given = ap (routes_of routes2) cells_now ∙ routes_with routes routes2 table.cells (p, to) value
-            (λ k m other here. carries m (live_cell routes numbers table.cells joined.counted k m here)
-            (live_cell routes2 numbers after counted k m (get-with_value (p, to) value table.cells k ∙ ap (λ (b : Bool). cond b value (map_of.get table.cells k)) other ∙ here)))
-            ∙ ap (λ (o : Option RouteFields). with_value (p, to) o (routes_of routes table.cells)) (route_later value live_value refl ∙ route_here) in
+        (λ k m other here. carries m (live_cell routes numbers table.cells joined.counted k m here)
+        (live_cell routes2 numbers after counted k m (get-with_value (p, to) value table.cells k ∙ ap (λ (b : Bool). cond b value (map_of.get table.cells k)) other ∙ here)))
+        ∙ ap (λ (o : Option RouteFields). with_value (p, to) o (routes_of routes table.cells)) (route_later value live_value refl ∙ route_here) in
         let dirty = ap (λ (b : Bool). cond b table.dirty (set_of.insert table.dirty (p, to))) test_here in
         let numbers_now = cells_now ∙ ap (λ (o : Option ℕ). with_value (p, to) o table.cells) value_is in
         λ i. record {
-          members = table.members; announced = announced i; given = given i; dirty = dirty i; opened = table.opened; numbers = numbers; cell_numbers = numbers_now i;
+          members = table.members;
+          announced = announced i;
+          given = given i;
+          dirty = dirty i;
+          opened = table.opened;
+          numbers = numbers;
+          cell_numbers = numbers_now i;
         }
       where
         route_here : option_map (route_in routes) value ≡ route_of (bases_of routes numbers table) p from

@@ -1,6 +1,5 @@
 -- All that a slot announces, or is given, goes.
-use Rattle.std.proofs.Common.{◌≡◌, ℕ, ◌+◌, ◌<◌, ◌==◌, ◌&&◌, ◌||◌, Bool, true, false, cond, not, eqb, Option, Some, None, is_some, IsSome, IfSome, IfNone, refl, sym, ap, subst, ◌∙◌, arith}
-use Rattle.std.specs.Option.{option_map}
+use Rattle.std.proofs.Common.{◌≡◌, ℕ, ◌<◌, ◌==◌, ◌&&◌, ◌||◌, Bool, true, false, cond, not, eqb, Option, Some, None, is_some, IsSome, IfSome, IfNone, refl, sym, ap, subst, ◌∙◌, arith}
 use Rattle.std.specs.FinMap as map_of
 use Rattle.std.specs.FinSet as set_of
 use Rattle.std.specs.Ordering.{is_lt, is_le}
@@ -9,8 +8,7 @@ use Rattle.std.specs.declared.cmp.Ordering.{Ordering}
 use Rattle.std.specs.declared.cmp.Ordering.TheVariants.{Less, Equal, Greater}
 use Rattle.std.proofs.lemmas.Bool.{eq-eqb, eqb-true, and_parts, and_from}
 use Rattle.rcp_base.specs.IpPrefix.{IpPrefix, prefix_cmp}
-use Rattle.rcp_model.specs.Ribs.{RibKey, RouteNumbers, rib_cmp}
-use Rattle.rcp_model.specs.Routes.{RouteFields}
+use Rattle.rcp_model.specs.Ribs.{RibKey, RouteNumbers}
 use Rattle.rcp_model.specs.ServerRibs.{Rib, with_value, without_slot}
 use Rattle.rcp_base.specs.Maps.{same_prefix}
 use Rattle.rcp_model.proofs.RibLemmas.{rib_total, rib_exact, prefix_total, prefix_exact}
@@ -22,7 +20,7 @@ use Rattle.route_store.proofs.DropLemmas.{all_dropped}
 use Rattle.out_table.specs.Tables as tables
 use Rattle.out_table.specs.Tables.{Table}
 use Rattle.adj_ribs.specs.Bases.{Bases, announced_at, after_change, after_drop, after_take, after_clear}
-use Rattle.adj_ribs.specs.Joins.{route_in, routes_of, bases_of, held_by, released_if, IsCounted, AreOpened, AreJoined}
+use Rattle.adj_ribs.specs.Joins.{routes_of, bases_of, held_by, released_if, IsCounted, AreJoined}
 use Rattle.adj_ribs.proofs.UseLemmas.{is_key, key_is, is_key-itself, len_with, there, plus, counted_same, counted_released_if, counted_cells, live_if}
 use Rattle.adj_ribs.proofs.RouteLemmas.{Narrows, Carries, routes_without, routes_same, once_narrowed, narrows_live, released_narrows_if, same_in}
 use Rattle.adj_ribs.proofs.LookLemmas.{lt_less}
@@ -89,9 +87,9 @@ module _ (routes : KeptRoutes) (numbers : RouteNumbers) (table : Table) (b : Bas
   pub nothing_left : after_drop slot b ≡ b
   nothing_left =
       let announced : without_slot slot b.announced ≡ b.announced =
-          ap (without_slot slot) (sym (announced_by routes numbers table b view)) ∙ sym announced_left ∙ announced_by routes numbers table b view in
+      ap (without_slot slot) (sym (announced_by routes numbers table b view)) ∙ sym announced_left ∙ announced_by routes numbers table b view in
       let numbers : without_slot slot b.numbers ≡ b.numbers =
-          ap (without_slot slot) (sym (numbers_by routes numbers table b view)) ∙ sym numbers_left ∙ numbers_by routes numbers table b view in
+      ap (without_slot slot) (sym (numbers_by routes numbers table b view)) ∙ sym numbers_left ∙ numbers_by routes numbers table b view in
       λ i. record b { announced = announced i; numbers = numbers i }
 
 pub first_some : (numbers : RouteNumbers) (slot : ℕ) (b : Bases) → ((q : IpPrefix) → is_some (map_of.get numbers (q, slot)) ≡ is_some (announced_at b slot q)) → (o : Option IpPrefix)
@@ -269,14 +267,19 @@ module _ (routes routes' : KeptRoutes) (numbers cells : RouteNumbers) (slot : �
     unfolding bases_of
     bases_end =
         let announced = routes_same routes routes' numbers
-            (λ k m here. carries_end m (live_number routes numbers table.cells joined.counted k m here) (live_number routes' numbers (without_slot slot table.cells) counted_end k m here)) in
+        (λ k m here. carries_end m (live_number routes numbers table.cells joined.counted k m here) (live_number routes' numbers (without_slot slot table.cells) counted_end k m here)) in
         let given = routes_without routes routes' table.cells slot
-            (λ k m other here. carries_end m (live_cell routes numbers table.cells joined.counted k m here)
-            (live_cell routes' numbers (without_slot slot table.cells) counted_end k m
-            (get-without_slot slot table.cells k ∙ ap (λ (b : Bool). cond b None (map_of.get table.cells k)) other ∙ here))) in
+        (λ k m other here. carries_end m (live_cell routes numbers table.cells joined.counted k m here)
+        (live_cell routes' numbers (without_slot slot table.cells) counted_end k m
+        (get-without_slot slot table.cells k ∙ ap (λ (b : Bool). cond b None (map_of.get table.cells k)) other ∙ here))) in
         λ i. record {
-          members = table.members; announced = announced i; given = given i; dirty = set_of.retain table.dirty (λ key. not (key.1 == slot)); opened = table.opened;
-          numbers = numbers; cell_numbers = without_slot slot table.cells;
+          members = table.members;
+          announced = announced i;
+          given = given i;
+          dirty = set_of.retain table.dirty (λ key. not (key.1 == slot));
+          opened = table.opened;
+          numbers = numbers;
+          cell_numbers = without_slot slot table.cells;
         }
 
     pub bases_cleared : (table2 : Table) → table2 ≡ tables.cleared slot table → (b : Bases) → bases_of routes numbers table ≡ b → bases_of routes' numbers table2 ≡ after_clear slot b

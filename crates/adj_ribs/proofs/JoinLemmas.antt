@@ -1,5 +1,5 @@
 -- How the stores stay joined, and what the bases are after each change.
-use Rattle.std.proofs.Common.{◌≡◌, ℕ, ◌+◌, ◌<◌, ◌||◌, Bool, true, false, cond, not, eqb, inl, inr, arith, Option, Some, None, is_some, IsSome, IfSome, refl, sym, ap, subst, ◌∙◌}
+use Rattle.std.proofs.Common.{◌≡◌, ℕ, ◌+◌, ◌||◌, Bool, true, false, cond, eqb, inl, arith, Option, Some, None, is_some, IsSome, IfSome, refl, sym, ap, subst, ◌∙◌}
 use Rattle.std.specs.Option.{option_map, unwrap_or}
 use Rattle.std.specs.Ordering.{nat_cmp, eq_by_cmp, is_eq}
 use Rattle.std.specs.Cmp.{tied_itself}
@@ -12,12 +12,12 @@ use Rattle.rcp_model.specs.ServerRibs.{Rib, Prefixes, with_value, without_slot}
 use Rattle.rcp_model.proofs.RibLemmas.{rib_total, rib_exact, prefix_total}
 use Rattle.rib_laws.proofs.RibLookups.{get-with_value, get-without_slot}
 use Rattle.attr_store.specs.declared.kept.KeptRoute.{KeptRoute}
-use Rattle.attr_store.specs.Kept.{KeptRoutes, route_at, uses_at, IsLive, HasEachOnce}
+use Rattle.attr_store.specs.Kept.{KeptRoutes, route_at, uses_at, IsLive}
 use Rattle.out_table.specs.Tables.{Table, new_table, opened}
 use Rattle.adj_ribs.specs.Bases.{Bases, no_bases, after_change, after_open}
 use Rattle.adj_ribs.specs.Joins.{route_in, routes_of, bases_of, held_by, IsCounted, AreOpened, AreJoined}
-use Rattle.adj_ribs.proofs.UseLemmas.{is_key, key_is, count_empty, live_of, plus, in_numbers, in_cells, counted_numbers}
-use Rattle.adj_ribs.proofs.RouteLemmas.{get_routes, routes_with, routes_without, routes_same, Carries}
+use Rattle.adj_ribs.proofs.UseLemmas.{is_key, key_is, count_empty, live_of, in_numbers, in_cells}
+use Rattle.adj_ribs.proofs.RouteLemmas.{get_routes, routes_with, routes_same, Carries}
 
 -- ---- what contracts see of the stores
 

@@ -6,7 +6,7 @@ use Rattle.std.specs.Option.{option_map}
 use Rattle.std.specs.FinMap as map_of
 use Rattle.std.specs.FinMap.Entries.{find, is_sorted, below_all}
 use Rattle.std.specs.FinSet as set_of
-use Rattle.std.specs.Ordering.{nat_cmp, eq_by_cmp, is_lt, is_le, is_gt}
+use Rattle.std.specs.Ordering.{nat_cmp, is_lt, is_le, is_gt}
 use Rattle.std.specs.Cmp.{unsigned_tied, ranked}
 use Rattle.std.specs.declared.cmp.Ordering.{Ordering}
 use Rattle.std.specs.declared.cmp.Ordering.TheVariants.{Less, Equal, Greater}
@@ -69,7 +69,7 @@ module _ (routes : KeptRoutes) (once : HasEachOnce routes) (numbers : RouteNumbe
     alike = λ a b. (
       λ e. get_routes routes numbers a ∙ ap (option_map (route_in routes)) e ∙ sym (get_routes routes numbers b),
       λ e. same_value (map_of.get numbers a) (map_of.get numbers b) (live_at a (map_of.get numbers a) refl) (live_at b (map_of.get numbers b) refl)
-      (sym (get_routes routes numbers a) ∙ e ∙ get_routes routes numbers b),
+          (sym (get_routes routes numbers a) ∙ e ∙ get_routes routes numbers b),
     );
   }
 

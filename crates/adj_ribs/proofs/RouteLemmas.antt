@@ -7,7 +7,7 @@ use Rattle.std.specs.Ordering.{eq_by_cmp}
 use Rattle.std.proofs.lemmas.Bool.{eqb-true, eq-eqb}
 use Rattle.rcp_model.specs.Ribs.{RibKey, rib_cmp, RouteNumbers}
 use Rattle.rcp_model.specs.Routes.{RouteFields}
-use Rattle.rcp_model.specs.ServerRibs.{Rib, same_route, with_value, without_slot}
+use Rattle.rcp_model.specs.ServerRibs.{same_route, with_value, without_slot}
 use Rattle.rcp_model.proofs.RibLemmas.{rib_total, rib_exact}
 use Rattle.rib_laws.proofs.RibLookups.{same_test, get-with_value, get-without_slot}
 use Rattle.rib_laws.proofs.PendingLemmas.{route_exact}

@@ -1,10 +1,10 @@
 -- The uses of numbers: how many announcements and cells hold one after a change of the maps, and what the store of routes counts.
-use Rattle.std.proofs.Common.{◌≡◌, ◌≢◌, ℕ, zero, suc, ◌+◌, ◌-◌, ◌<◌, ◌==◌, Bool, true, false, cond, not, ◌&&◌, ◌⊎◌, eqb, Option, Some, None, is_some, IsSome, IfSome, refl, sym, ap, subst, ◌∙◌, inl, inr, arith}
+use Rattle.std.proofs.Common.{◌≡◌, ℕ, zero, suc, ◌+◌, ◌-◌, ◌<◌, ◌==◌, Bool, true, false, cond, ◌&&◌, ◌⊎◌, eqb, Option, Some, None, is_some, IsSome, IfSome, refl, sym, ap, subst, ◌∙◌, inl, inr, arith}
 use Rattle.std.specs.Option.{option_map, unwrap_or}
 use Rattle.std.specs.Cmp.{unsigned_tied, Equal-is}
 use Rattle.std.specs.FinMap as map_of
 use Rattle.std.specs.Ordering.{nat_cmp, eq_by_cmp}
-use Rattle.std.proofs.lemmas.Bool.{eq-eqb, eqb-true, eqb-false, and_parts, and_from}
+use Rattle.std.proofs.lemmas.Bool.{eq-eqb, eqb-true, and_from}
 use Rattle.std.proofs.lemmas.Bool.Decides.{nat_tests}
 use Rattle.std.proofs.lemmas.Cmp.{nat_cmp_total}
 use Rattle.rcp_base.specs.Maps.{same_prefix}
@@ -14,7 +14,7 @@ use Rattle.rcp_model.specs.ServerRibs.{Rib, with_value}
 use Rattle.rcp_model.proofs.RibLemmas.{rib_total, rib_exact}
 use Rattle.rib_laws.proofs.RibLookups.{key_tied, get-with_value, get-retained}
 use Rattle.attr_store.specs.declared.kept.KeptRoute.{KeptRoute}
-use Rattle.attr_store.specs.Kept.{KeptRoutes, MOST_USES, route_at, uses_at, IsLive, HasEachOnce, one_more, used, retained, retained_at, released, released_at}
+use Rattle.attr_store.specs.Kept.{KeptRoutes, MOST_USES, uses_at, IsLive, one_more, used, retained, retained_at, released, released_at}
 use Rattle.adj_ribs.specs.Joins.{is_number, holders, count_of, held_by, IsCounted, retained_if, released_if}
 
 -- ---- keys

@@ -1,10 +1,10 @@
 -- The routing information bases of a shard (RFC 4271 section 3.2) as finite maps and sets, and what each call does to them.
-use Rattle.std.specs.Prelude.{◌≡◌, ℕ, Bool, true, not, ◌==◌, List, Option, Some, None, IsSome, is_some, option_map, if◌then◌else◌, refl, ◌↔◌}
+use Rattle.std.specs.Prelude.{◌≡◌, ℕ, Bool, true, not, ◌==◌, Option, Some, None, IsSome, is_some, option_map, if◌then◌else◌, refl, ◌↔◌}
 use Rattle.std.specs.Coded.{Coded, code_by, coded×, coded_ℕ}
 use Rattle.std.specs.Option.{option_and_then}
 use Rattle.std.specs.FinMap as map_of
 use Rattle.std.specs.FinSet as set_of
-use Rattle.rcp_base.specs.IpPrefix.{IpPrefix, prefix_cmp}
+use Rattle.rcp_base.specs.IpPrefix.{IpPrefix}
 use Rattle.rcp_model.specs.Routes.{RouteFields}
 use Rattle.rcp_model.specs.Assigned.{IsLeast, IsAfter}
 use Rattle.rcp_model.specs.Ribs.{RibKey, rib_cmp, RouteNumbers, prefix_code, route_numbers_code}

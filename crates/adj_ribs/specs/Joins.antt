@@ -1,10 +1,9 @@
 -- How the three stores of a shard belong together: the routes by number, the announcements and the cells.
-use Rattle.std.specs.Prelude.{◌≡◌, ℕ, ◌+◌, ◌==◌, Bool, true, false, List, map, Option, Some, None, IsSome, unwrap_or, [], ◌⊎◌}
+use Rattle.std.specs.Prelude.{◌≡◌, ℕ, ◌+◌, ◌==◌, Bool, true, false, map, Option, Some, None, IsSome, unwrap_or, [], ◌⊎◌}
 use Rattle.std.specs.FinMap as map_of
 use Rattle.std.specs.FinSet as set_of
-use Rattle.rcp_base.specs.IpPrefix.{IpPrefix}
 use Rattle.rcp_model.specs.Routes.{RouteFields}
-use Rattle.rcp_model.specs.Ribs.{RibKey, rib_cmp, RouteNumbers}
+use Rattle.rcp_model.specs.Ribs.{RibKey, RouteNumbers}
 use Rattle.rcp_model.specs.ServerRibs.{Rib, Prefixes}
 use Rattle.attr_store.specs.Kept.{KeptRoutes, route_at, uses_at, MOST_USES, HasEachOnce, retained, released}
 use Rattle.out_table.specs.Tables.{Table}

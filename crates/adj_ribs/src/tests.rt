@@ -36,8 +36,12 @@ fn give(ribs: &mut AdjRibs, to: u16, p: Prefix, place: usize) -> Option<bool> {
     if to >= ribs.members() || !ribs.is_opened(p) {
         return None;
     }
-    let from = ribs.announcers(p).get(place).copied();
-    Some(ribs.set_cell(Slot(to), p, from))
+    let announcers = ribs.announcers(p);
+    if place >= announcers.len() {
+        return Some(ribs.set_cell(Slot(to), p, None));
+    }
+    let from = announcers[place];
+    Some(ribs.set_cell(Slot(to), p, Some(from)))
 }
 
 fn take(ribs: &mut AdjRibs, slot: u16) -> Option<Prefix> {
@@ -45,6 +49,12 @@ fn take(ribs: &mut AdjRibs, slot: u16) -> Option<Prefix> {
         return None;
     }
     ribs.take_dirty(Slot(slot))
+}
+
+fn clear(ribs: &mut AdjRibs, slot: u16) {
+    if slot < ribs.members() {
+        ribs.clear(Slot(slot));
+    }
 }
 
 fn cell_med(ribs: &AdjRibs, slot: u16, p: Prefix) -> Option<u32> {
@@ -95,5 +105,19 @@ fn least_dirty_prefix_comes_first(rt: HostRuntime) -> Result<(), Fail> {
     assert_eq!(rt; take(&mut ribs, 0), Some(a));
     assert_eq!(rt; take(&mut ribs, 0), Some(b));
     assert_eq!(rt; take(&mut ribs, 0), None);
+    Ok(())
+}
+
+#[test]
+fn a_cleared_slot_has_no_cell_and_none_dirty(rt: HostRuntime) -> Result<(), Fail> {
+    let p = prefix(1)?;
+    let mut ribs = AdjRibs::new(rt.alloc(), 2)?;
+    ribs.announce(Slot(1), p, route(rt.alloc(), 7)?)?;
+    assert_eq!(rt; give(&mut ribs, 0, p, 0), Some(true));
+    assert_eq!(rt; give(&mut ribs, 1, p, 0), Some(true));
+    clear(&mut ribs, 0);
+    assert_eq!(rt; cell_med(&ribs, 0, p), None);
+    assert_eq!(rt; take(&mut ribs, 0), None);
+    assert_eq!(rt; take(&mut ribs, 1), Some(p));
     Ok(())
 }

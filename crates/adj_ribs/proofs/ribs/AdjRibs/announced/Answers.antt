@@ -1,6 +1,5 @@
 use Rattle.std.proofs.Common.{sym, ap, ◌∙◌}
 use Rattle.std.specs.Option.{option_map}
-use Rattle.rcp_model.specs.Routes.{RouteFields}
 use Rattle.adj_ribs.specs.Joins.{route_in}
 use Rattle.adj_ribs.proofs.JoinLemmas.{announced_is, live_number}
 use Rattle.adj_ribs.proofs.LookLemmas.{found_route, none_found}

@@ -1,4 +1,4 @@
-use Rattle.std.proofs.Common.{◌≡◌, ℕ, Some, sym, ap, ◌∙◌}
+use Rattle.std.proofs.Common.{sym, ap, ◌∙◌}
 use Rattle.std.specs.FinMap as map_of
 use Rattle.rcp_model.specs.Ribs.{RouteNumbers}
 use Rattle.adj_ribs.specs.Joins.{routes_of}

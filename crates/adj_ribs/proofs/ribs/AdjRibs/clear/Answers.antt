@@ -40,13 +40,12 @@ loop-p-smaller c =
 
 pub loop-p-preserved : goal.loop-p-preserved
 loop-p-preserved c =
-    let s = c.self.inside in
-    (
+    let s = c.self.inside in (
       c.loop-p.invariant.0,
       c.loop-p.invariant.1,
       releasing_next s.routes c.loop-p.self-inside.routes s.announcements s.table.cells c.args.slot c.loop-p.after c.loop-p.invariant.2 c.in-Some.p
-      (subst (λ (t : Table). tables.IsLeast (is_entry t.cells c.args.slot c.loop-p.after) (Some c.in-Some.p)) c.loop-p.invariant.1 c.in-Some.ensures)
-      c.get.result (c.get.ensures ∙ ap (λ (t : Table). map_of.get t.cells (c.in-Some.p, c.args.slot)) c.loop-p.invariant.1) c.release.new.routes c.release.ensures,
+          (subst (λ (t : Table). tables.IsLeast (is_entry t.cells c.args.slot c.loop-p.after) (Some c.in-Some.p)) c.loop-p.invariant.1 c.in-Some.ensures)
+          c.get.result (c.get.ensures ∙ ap (λ (t : Table). map_of.get t.cells (c.in-Some.p, c.args.slot)) c.loop-p.invariant.1) c.release.new.routes c.release.ensures,
     )
 
 pub clear-requires : goal.clear-requires

@@ -1,4 +1,4 @@
-use Rattle.std.proofs.Common.{◌≡◌, ◌<◌, sym, ap, subst, ◌∙◌}
+use Rattle.std.proofs.Common.{◌<◌, sym, ap, subst, ◌∙◌}
 use Rattle.std.specs.FinMap as map_of
 use Rattle.adj_ribs.specs.Bases.{Bases, after_drop}
 use Rattle.adj_ribs.proofs.DropLemmas.{drop_again, one_fewer}

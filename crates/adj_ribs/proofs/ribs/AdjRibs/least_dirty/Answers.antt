@@ -1,5 +1,4 @@
-use Rattle.std.proofs.Common.{ℕ, ◌<◌, Option, sym, subst}
-use Rattle.rcp_base.specs.IpPrefix.{IpPrefix}
+use Rattle.std.proofs.Common.{ℕ, ◌<◌, sym, subst}
 use Rattle.adj_ribs.specs.Bases.{IsLeastDirty}
 use Rattle.adj_ribs.proofs.JoinLemmas.{members_by, dirty_by}
 use Rattle.adj_ribs.proofs.LookLemmas.{dirty_is}

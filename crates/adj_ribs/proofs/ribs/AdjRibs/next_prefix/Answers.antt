@@ -1,7 +1,6 @@
-use Rattle.std.proofs.Common.{ℕ, IsSome, IfSome, ap, sym, subst, ◌≡◌, true, ◌∙◌}
+use Rattle.std.proofs.Common.{ℕ, IsSome, IfSome, sym, subst, ◌≡◌, true, ◌∙◌}
 use Rattle.std.specs.FinMap as map_of
 use Rattle.std.specs.FinSet as set_of
-use Rattle.rcp_base.specs.IpPrefix.{IpPrefix}
 use Rattle.rcp_model.specs.ServerRibs.{Prefixes}
 use Rattle.adj_ribs.specs.Bases.{IsAnnounced}
 use Rattle.adj_ribs.proofs.JoinLemmas.{opened_by}

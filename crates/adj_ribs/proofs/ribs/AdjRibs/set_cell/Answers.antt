@@ -1,4 +1,4 @@
-use Rattle.std.proofs.Common.{◌≡◌, ℕ, ◌<◌, true, Option, IfSome, sym, ap, subst, ◌∙◌}
+use Rattle.std.proofs.Common.{ℕ, ◌<◌, Option, IfSome, sym, ap, subst, ◌∙◌}
 use Rattle.std.specs.FinSet as set_of
 use Rattle.rcp_model.specs.ServerRibs.{Prefixes}
 use Rattle.attr_store.specs.Kept.{IsLive}
