@@ -121,6 +121,20 @@ fn edges_stand_in_order_each_once(rt: HostRuntime) -> Result<(), Fail> {
 }
 
 #[test]
+fn a_large_graph_takes_one_more(rt: HostRuntime) -> Result<(), Fail> {
+    let mut graph = Graph::new(rt.alloc())?;
+    for cost in 0..4097u32 {
+        graph.add(Edge {
+            from: RouterId(1),
+            to: RouterId(2),
+            cost,
+        })?;
+    }
+    assert_eq!(rt; graph.edges().len(), 4097);
+    Ok(())
+}
+
+#[test]
 fn a_view_answers_the_costs_between_slots(rt: HostRuntime) -> Result<(), Fail> {
     let graph = graph_of(
         rt.alloc(),
