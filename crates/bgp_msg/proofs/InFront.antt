@@ -17,7 +17,7 @@ use Rattle.bgp_msg.proofs.Holding.{fault_in_front-short, fault_in_front-long}
 pub nothing-short : (octets : List ℕ) → length octets < 19 → (message_size octets ≡ None) × (fault_in_front octets ≡ None)
 nothing-short octets short = (message_size-None octets (inl short), fault_in_front-short octets short)
 
--- shorter than its header tells
+-- shorter than its header says
 pub nothing-part : (octets : List ℕ) → 19 ≤ length octets → header_fault octets ≡ None → length octets < length_field octets
     → (message_size octets ≡ None) × (fault_in_front octets ≡ None)
 nothing-part octets long faultless part = (message_size-None octets (inr (inr (faultless, part))), fault_in_front-long octets long ∙ faultless)
@@ -29,7 +29,7 @@ faulty octets why long e = (message_size-None octets (inr (inl (λ none. none-so
 
 -- ---- a whole message
 
--- the octets that a header tells, and those of them after the header
+-- the octets that a header counts, and those of them after the header
 pub record IsCutOff (octets : List ℕ) (kind len : ℕ) (message body : List ℕ) : Type 0 where
   pub read : IsHeader octets kind len
   pub least : 19 ≤ len

@@ -52,7 +52,7 @@ clock-answers roster now h new a0 a1 next unspent open_ none takes unspent' is =
     answers-from (answer roster (Moment now) h.state) (stepped m h.state.kept s) h new new a0 a1 (answer-moment roster now h.state open_) unspent unspent' refl none
     (is ∙ ap (λ (p : Phase). let r : SessionState = record { phase = p; kept = if is_closed p then [] else h.state.kept; latest = m } in r) takes.phase) takes.does
 
--- what is sent at a moment is what the timers send
+-- what is sent at a time is what the timers send
 pub moment-sends : (roster : RosterOf) (now : ℕ) (h : Held) → is_closed h.state.phase ≡ false → (tick (max h.state.latest now) h.state.phase).does.sent ≢ []
     → (answer roster (Moment now) h.state).does.sent ≢ []
 moment-sends roster now h open_ sends none = sends (sym (ap (λ (r : Answer). r.does.sent) (answer-moment roster now h.state open_)) ∙ none)

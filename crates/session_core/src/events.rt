@@ -52,7 +52,7 @@ pub fn tell_changes(
     Ok(())
 }
 
-/// Tells that the prefixes of a section are withdrawn, but for those of another one, which is read once.
+/// Adds that the prefixes of a section are withdrawn, but for those of another one, which is read once.
 fn tell_withdrawn(
     alloc: Global,
     events: &mut Vec<SessionEvent>,

@@ -1,4 +1,4 @@
-// Sessions from their first octet on: what comes to each, and what it sends, tells and ends with.
+// Sessions from their first octet on: what comes to each, and what it sends, what it reports and how it ends.
 use crate::{Actions, Closed, Session, SessionEvent, Why};
 use rcp_base::Slot;
 use roster::{Roster, read};
@@ -36,7 +36,7 @@ enum Input {
 
 // An event, a prefix by its address and length.
 #[derive(Clone, Copy, Debug, PartialEq, Eq)]
-enum Told {
+enum Event {
     Up,
     Announced(u32, u8),
     Withdrawn(u32, u8),
@@ -47,7 +47,7 @@ enum Told {
 #[derive(Drop)]
 struct Log {
     sent: Vec<u8>,
-    told: Vec<Told>,
+    events: Vec<Event>,
     claim: Option<Slot>,
     closed: Option<Closed>,
 }
@@ -56,7 +56,7 @@ impl Log {
     fn new(alloc: Global) -> Log {
         Log {
             sent: Vec::new(alloc),
-            told: Vec::new(alloc),
+            events: Vec::new(alloc),
             claim: None,
             closed: None,
         }
@@ -68,7 +68,7 @@ impl Log {
             self.sent.extend_from_slice(rest)?;
         }
         for event in &actions.events {
-            self.told.push(what_is_told(event))?;
+            self.events.push(event_of(event))?;
         }
         self.claim = actions.claim.or(self.claim);
         self.closed = actions.closed.or(self.closed);
@@ -76,11 +76,11 @@ impl Log {
     }
 }
 
-fn what_is_told(event: &SessionEvent) -> Told {
+fn event_of(event: &SessionEvent) -> Event {
     match event {
-        SessionEvent::Up => Told::Up,
-        SessionEvent::Announce { prefix, .. } => Told::Announced(prefix.addr(), prefix.len()),
-        SessionEvent::Withdraw { prefix } => Told::Withdrawn(prefix.addr(), prefix.len()),
+        SessionEvent::Up => Event::Up,
+        SessionEvent::Announce { prefix, .. } => Event::Announced(prefix.addr(), prefix.len()),
+        SessionEvent::Withdraw { prefix } => Event::Withdrawn(prefix.addr(), prefix.len()),
     }
 }
 
@@ -148,7 +148,7 @@ fn a_connection_begins_with_an_open(rt: HostRuntime) -> Result<(), Fail> {
     let mut log = Log::new(alloc);
     log.add(&actions)?;
     assert_eq!(rt; log.sent.as_slice(), OWN_OPEN);
-    assert!(rt; log.told.is_empty());
+    assert!(rt; log.events.is_empty());
     assert_eq!(rt; log.closed, None);
     Ok(())
 }
@@ -160,7 +160,7 @@ fn an_ended_connection_closes_its_session_once(rt: HostRuntime) -> Result<(), Fa
     let (mut session, actions) = established(alloc, &roster)?;
     let mut log = Log::new(alloc);
     log.add(&actions)?;
-    assert_eq!(rt; log.told.as_slice(), [Told::Up].as_slice());
+    assert_eq!(rt; log.events.as_slice(), [Event::Up].as_slice());
     let end = session.end();
     assert_eq!(rt;
         end.closed,

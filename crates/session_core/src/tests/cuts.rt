@@ -1,5 +1,5 @@
 // Octets that come in pieces.
-use super::{ALIVE, ANNOUNCEMENT, Log, MARKER, OPEN_30, Told, established, linked};
+use super::{ALIVE, ANNOUNCEMENT, Event, Log, MARKER, OPEN_30, established, linked};
 use crate::Session;
 use roster::Roster;
 use std::alloc::Global;
@@ -39,13 +39,13 @@ fn pieces_of_any_length_give_the_same(rt: HostRuntime) -> Result<(), Fail> {
         [0, 19, 4, 0, 22, 3, 1, 3, 9].as_slice()
     );
     assert_eq!(rt;
-        whole.told.as_slice(),
-        [Told::Up, Told::Announced(0xcb00_7100, 24)].as_slice()
+        whole.events.as_slice(),
+        [Event::Up, Event::Announced(0xcb00_7100, 24)].as_slice()
     );
     for count in [1, 2, 3, 18, 19, 20, 31, 50] {
         let log = hear(alloc, &roster, &octets, count)?;
         assert_eq!(rt; log.sent.as_slice(), whole.sent.as_slice(), "{count}");
-        assert_eq!(rt; log.told.as_slice(), whole.told.as_slice(), "{count}");
+        assert_eq!(rt; log.events.as_slice(), whole.events.as_slice(), "{count}");
         assert_eq!(rt; log.closed, whole.closed, "{count}");
     }
     Ok(())
