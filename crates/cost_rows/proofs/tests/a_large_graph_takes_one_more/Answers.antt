@@ -1,5 +1,5 @@
 use Rattle.std.proofs.Common.{◌≡◌, ◌≤◌, List, [], ◌∷◌, length, Contains, sym, refl, subst, inl, inr, arith}
-use Rattle.rcp_model.specs.declared.event.Edge.{Edge}
+use Rattle.rcp_base.specs.declared.names.Edge.{Edge}
 use Rattle.rcp_model.specs.Edges.{include_edge}
 use Rattle.rcp_model.specs.Graphs.{routers_in}
 use Rattle.rcp_model.proofs.MemberLemmas.{Contains-head, Contains-tail, Contains-none}

@@ -1,5 +1,5 @@
 use Rattle.std.proofs.Common.{◌≡◌, Contains}
-use Rattle.rcp_model.specs.declared.event.Edge.{Edge}
+use Rattle.rcp_base.specs.declared.names.Edge.{Edge}
 use Rattle.cost_rows.proofs.tests.a_large_graph_takes_one_more.Given as goal
 
 abbrev pub invariant-loop-cost : goal.invariant-loop-cost
