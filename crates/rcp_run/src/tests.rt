@@ -1,3 +1,5 @@
+//! Feeds as data: the records that are fed, and those that are written.
+
 mod faults;
 mod sessions;
 mod updates;
@@ -8,32 +10,114 @@ use std::alloc::{AllocError, Global};
 use std::test::Fail;
 use std::thread::Threads;
 
+// A record: its kind, its connection, and its body in pieces.
+type Record<'a> = (u8, u32, &'a [&'a [u8]]);
+
+// What a case shows, what is fed up to the record Z, and what is written.
+type Case<'a> = (&'a str, &'a [&'a [Record<'a>]], &'a [&'a [Record<'a>]]);
+
 // Three routers A, B and C in a row, each link of cost 10.
-const ROSTER: &str = "as 65000\nid 10.0.0.254\nshards 2\nhold 90\narea 0.0.0.0\n\
+const ROSTER: &[u8] = b"as 65000\nid 10.0.0.254\nshards 2\nhold 90\narea 0.0.0.0\n\
 router 10.0.0.1 10.0.0.1\nrouter 10.0.0.2 10.0.0.2\nrouter 10.0.0.3 10.0.0.3\n\
 link 10.0.0.1 10.0.0.2 10\nlink 10.0.0.2 10.0.0.3 10\n";
 
-// An UPDATE that announces 203.0.113.0/24 with ORIGIN IGP, the path 65001, NEXT_HOP 10.0.0.1 and LOCAL_PREF 100.
-const ANNOUNCEMENT: [u8; 52] = [
-    0xff, 0xff, 0xff, 0xff, 0xff, 0xff, 0xff, 0xff, 0xff, 0xff, 0xff, 0xff, 0xff, 0xff, 0xff, 0xff,
-    0x00, 0x34, 0x02, 0x00, 0x00, 0x00, 0x19, 0x40, 0x01, 0x01, 0x00, 0x40, 0x02, 0x04, 0x02, 0x01,
-    0xfd, 0xe9, 0x40, 0x03, 0x04, 0x0a, 0x00, 0x00, 0x01, 0x40, 0x05, 0x04, 0x00, 0x00, 0x00, 0x64,
-    0x18, 0xcb, 0x00, 0x71,
+// What each message begins with (RFC 4271 section 4.1).
+const MARKER: &[u8] = &[0xff; 16];
+
+// Path attributes (RFC 4271 section 4.3), NEXT_HOP and LOCAL_PREF without their last octet.
+const IGP: &[u8] = &[0x40, 0x01, 0x01, 0x00];
+
+const BY_65001: &[u8] = &[0x40, 0x02, 0x04, 0x02, 0x01, 0xfd, 0xe9];
+
+const NEXT_HOP: &[u8] = &[0x40, 0x03, 0x04, 10, 0, 0];
+
+const PREF: &[u8] = &[0x40, 0x05, 0x04, 0, 0, 0];
+
+// 203.0.113.0/24
+const PREFIX: &[u8] = &[0x18, 0xcb, 0x00, 0x71];
+
+// What UPDATEs with 25 octets of attributes and one prefix have before their attributes.
+const UPDATE_52: &[u8] = &[0, 52, 2, 0, 0, 0, 25];
+
+// UPDATEs of the prefix: by A, by C and, with a higher LOCAL_PREF, by B; and one that withdraws it.
+const FROM_A: &[&[u8]] = &[
+    MARKER,
+    UPDATE_52,
+    IGP,
+    BY_65001,
+    NEXT_HOP,
+    &[1],
+    PREF,
+    &[100],
+    PREFIX,
 ];
 
-// An UPDATE that withdraws the same prefix.
-const WITHDRAWAL: [u8; 27] = [
-    0xff, 0xff, 0xff, 0xff, 0xff, 0xff, 0xff, 0xff, 0xff, 0xff, 0xff, 0xff, 0xff, 0xff, 0xff, 0xff,
-    0x00, 0x1b, 0x02, 0x00, 0x04, 0x18, 0xcb, 0x00, 0x71, 0x00, 0x00,
+const FROM_B: &[&[u8]] = &[
+    MARKER,
+    UPDATE_52,
+    IGP,
+    BY_65001,
+    NEXT_HOP,
+    &[2],
+    PREF,
+    &[200],
+    PREFIX,
 ];
 
-// The announcement with the NEXT_HOP of a router of this number, and this LOCAL_PREF.
-fn announcement(router: u8, pref: u8) -> [u8; 52] {
-    let mut message = ANNOUNCEMENT;
-    message[40] = router;
-    message[47] = pref;
-    message
-}
+const FROM_C: &[&[u8]] = &[
+    MARKER,
+    UPDATE_52,
+    IGP,
+    BY_65001,
+    NEXT_HOP,
+    &[3],
+    PREF,
+    &[100],
+    PREFIX,
+];
+
+const WITHDRAWAL: &[&[u8]] = &[MARKER, &[0, 27, 2, 0, 4], PREFIX, &[0, 0]];
+
+// Counts in eight octets.
+const ZERO: &[u8] = &[0, 0, 0, 0, 0, 0, 0, 0];
+
+const ONE: &[u8] = &[0, 0, 0, 0, 0, 0, 0, 1];
+
+const TWO: &[u8] = &[0, 0, 0, 0, 0, 0, 0, 2];
+
+const THREE: &[u8] = &[0, 0, 0, 0, 0, 0, 0, 3];
+
+const FOUR: &[u8] = &[0, 0, 0, 0, 0, 0, 0, 4];
+
+const DRAIN: Record = (b'D', 0, &[]);
+
+const BEGUN: &[Record] = &[(b'C', 0, &[ROSTER])];
+
+// A, B and C connect.
+const CONNECTED: &[Record] = &[
+    (b'C', 0, &[ROSTER]),
+    (b'E', 1, &[&[10, 0, 0, 1]]),
+    (b'E', 2, &[&[10, 0, 0, 2]]),
+    (b'E', 3, &[&[10, 0, 0, 3]]),
+];
+
+// A and C announce the prefix too, and it is decided.
+const DECIDED: &[Record] = &[
+    (b'C', 0, &[ROSTER]),
+    (b'E', 1, &[&[10, 0, 0, 1]]),
+    (b'E', 2, &[&[10, 0, 0, 2]]),
+    (b'E', 3, &[&[10, 0, 0, 3]]),
+    (b'B', 1, FROM_A),
+    (b'B', 3, FROM_C),
+    DRAIN,
+];
+
+const ONCE_DECIDED: &[&[Record]] = &[DECIDED];
+
+const ENDED: &[&[Record]] = &[DECIDED, &[(b'Z', 0, &[])]];
+
+// What B gets then.
+const SENT: &[Record] = &[(b'B', 2, FROM_A), (b'S', 0, &[THREE, ONE, ONE])];
 
 fn add(feed: &mut Vec<u8>, kind: u8, source: u32, body: &[u8]) -> Result<(), Fail> {
     feed.push(kind)?;
@@ -43,107 +127,104 @@ fn add(feed: &mut Vec<u8>, kind: u8, source: u32, body: &[u8]) -> Result<(), Fai
     Ok(())
 }
 
-// A message of a type with this body (RFC 4271 section 4.1).
-fn message(alloc: Global, kind: u8, body: &[u8]) -> Result<Vec<u8>, Fail> {
-    let mut message = vec![in alloc; 0xff; 16]?;
-    let count = u16::try_from(body.len())?;
-    message.extend_from_slice(&count.saturating_add(19).to_be_bytes())?;
-    message.push(kind)?;
-    message.extend_from_slice(body)?;
-    Ok(message)
+fn joined(alloc: Global, pieces: &[&[u8]]) -> Result<Vec<u8>, AllocError> {
+    let mut octets = Vec::new(alloc);
+    for piece in pieces {
+        octets.extend_from_slice(piece)?;
+    }
+    Ok(octets)
 }
 
-fn add_summary(out: &mut Vec<u8>, routers: u64, prefixes: u64, updates: u64) -> Result<(), Fail> {
-    out.extend_from_slice(&[b'S', 0, 0, 0, 0, 0, 0, 0, 24])?;
-    out.extend_from_slice(&routers.to_be_bytes())?;
-    out.extend_from_slice(&prefixes.to_be_bytes())?;
-    out.extend_from_slice(&updates.to_be_bytes())?;
+fn add_all(feed: &mut Vec<u8>, alloc: Global, records: &[Record]) -> Result<(), Fail> {
+    for (kind, connection, pieces) in records {
+        add(feed, *kind, *connection, &joined(alloc, pieces)?)?;
+    }
     Ok(())
 }
 
-// A feed of the roster alone.
-fn begun(alloc: Global) -> Result<Vec<u8>, Fail> {
+// The octets of lists of records, one after another.
+fn octets_of(alloc: Global, lists: &[&[Record]]) -> Result<Vec<u8>, Fail> {
     let mut feed = Vec::new(alloc);
-    add(&mut feed, b'C', 0, ROSTER.as_bytes())?;
+    for records in lists {
+        add_all(&mut feed, alloc, records)?;
+    }
     Ok(feed)
 }
 
-// A feed in which A, B and C connect.
-fn connected(alloc: Global) -> Result<Vec<u8>, Fail> {
-    let mut feed = begun(alloc)?;
-    add(&mut feed, b'E', 1, &[10, 0, 0, 1])?;
-    add(&mut feed, b'E', 2, &[10, 0, 0, 2])?;
-    add(&mut feed, b'E', 3, &[10, 0, 0, 3])?;
-    Ok(feed)
+// The status of a run of these words, and what was written, where the reads and the writes of these numbers fail.
+fn outcome<R: Threads + Sync>(
+    rt: &R,
+    alloc: Global,
+    words: &[&str],
+    feed: Vec<u8>,
+    fails: (Vec<u64>, Vec<u64>),
+) -> Result<(Status, Vec<u8>), AllocError> {
+    let (reads, writes) = fails;
+    let mut source = MemSource::new(feed, reads);
+    let mut sink = MemSink::new(alloc, writes);
+    let status = run(rt, alloc, words, &mut source, &mut sink);
+    Ok((status, Vec::from_slice(alloc, sink.octets())?))
 }
 
-// A feed in which A and C announce the prefix too, and it is decided.
-fn decided(alloc: Global) -> Result<Vec<u8>, Fail> {
-    let mut feed = connected(alloc)?;
-    add(&mut feed, b'B', 1, &announcement(1, 100))?;
-    add(&mut feed, b'B', 3, &announcement(3, 100))?;
-    add(&mut feed, b'D', 0, &[])?;
-    Ok(feed)
-}
-
-// What B is told then.
-fn told(alloc: Global) -> Result<Vec<u8>, Fail> {
-    let mut out = Vec::new(alloc);
-    add(&mut out, b'B', 2, &announcement(1, 100))?;
-    add_summary(&mut out, 3, 1, 1)?;
-    Ok(out)
-}
-
-// The status of a replay of the feed, and what was written.
 fn replayed<R: Threads + Sync>(
     rt: &R,
     alloc: Global,
     feed: Vec<u8>,
 ) -> Result<(Status, Vec<u8>), AllocError> {
-    let mut source = MemSource::new(feed, Vec::new(alloc));
-    let mut sink = MemSink::new(alloc, Vec::new(alloc));
-    let status = run(rt, alloc, &["replay"], &mut source, &mut sink);
-    Ok((status, Vec::from_slice(alloc, sink.octets())?))
+    outcome(
+        rt,
+        alloc,
+        &["replay"],
+        feed,
+        (Vec::new(alloc), Vec::new(alloc)),
+    )
 }
 
-#[test]
-fn the_lower_identifier_decides_between_equal_costs(rt: HostRuntime) -> Result<(), Fail> {
-    let mut feed = decided(rt.alloc())?;
+// What is written for a feed that goes on to its end.
+fn done<R: Threads + Sync>(rt: &R, alloc: Global, feed: Vec<u8>) -> Result<Vec<u8>, Fail> {
+    let mut feed = feed;
     add(&mut feed, b'Z', 0, &[])?;
-    let (status, written) = replayed(&rt, rt.alloc(), feed)?;
-    assert_eq!(rt; status, Status::Done);
-    assert_eq!(rt; status.code(), 0);
-    let wanted = told(rt.alloc())?;
-    assert_eq!(rt; written.as_slice(), wanted.as_slice());
-    Ok(())
+    let (status, written) = replayed(rt, alloc, feed)?;
+    if status != Status::Done || status.code() != 0 {
+        return Err("not done")?;
+    }
+    Ok(written)
 }
 
-#[test]
-fn a_roster_alone_has_no_output(rt: HostRuntime) -> Result<(), Fail> {
-    let mut feed = begun(rt.alloc())?;
-    add(&mut feed, b'Z', 0, &[])?;
-    let (status, written) = replayed(&rt, rt.alloc(), feed)?;
-    assert_eq!(rt; status, Status::Done);
-    assert!(rt; written.is_empty());
-    Ok(())
+fn written<R: Threads + Sync>(rt: &R, alloc: Global, lists: &[&[Record]]) -> Result<Vec<u8>, Fail> {
+    let feed = octets_of(alloc, lists)?;
+    done(rt, alloc, feed)
 }
 
+const CASES: &[Case] = &[
+    ("a roster alone has no output", &[BEGUN], &[]),
+    (
+        "the lower identifier decides between equal costs",
+        &[DECIDED],
+        &[SENT],
+    ),
+    (
+        "a router that gets the best route itself is made to forget the other",
+        &[DECIDED, &[(b'B', 2, FROM_B), DRAIN]],
+        &[
+            SENT,
+            &[
+                (b'B', 1, FROM_B),
+                (b'B', 2, WITHDRAWAL),
+                (b'B', 3, FROM_B),
+                (b'S', 0, &[THREE, ONE, FOUR]),
+            ],
+        ],
+    ),
+];
+
 #[test]
-fn a_router_that_gets_the_best_route_itself_is_told_to_forget_the_other(
-    rt: HostRuntime,
-) -> Result<(), Fail> {
-    let mut feed = decided(rt.alloc())?;
-    add(&mut feed, b'B', 2, &announcement(2, 200))?;
-    add(&mut feed, b'D', 0, &[])?;
-    add(&mut feed, b'Z', 0, &[])?;
-    let (status, written) = replayed(&rt, rt.alloc(), feed)?;
-    assert_eq!(rt; status, Status::Done);
-    let mut wanted = told(rt.alloc())?;
-    add(&mut wanted, b'B', 1, &announcement(2, 200))?;
-    add(&mut wanted, b'B', 2, &WITHDRAWAL)?;
-    add(&mut wanted, b'B', 3, &announcement(2, 200))?;
-    add_summary(&mut wanted, 3, 1, 4)?;
-    assert_eq!(rt; written.as_slice(), wanted.as_slice());
+fn routers_get_what_is_decided(rt: HostRuntime) -> Result<(), Fail> {
+    for (shows, fed, wanted) in CASES {
+        let found = written(&rt, rt.alloc(), fed)?;
+        let wanted = octets_of(rt.alloc(), wanted)?;
+        assert_eq!(rt; found.as_slice(), wanted.as_slice(), "{shows}");
+    }
     Ok(())
 }
 
@@ -161,12 +242,16 @@ fn other_words_are_no_command(rt: HostRuntime) -> Result<(), Fail> {
         &["--", "replay"],
     ];
     for words in lists {
-        let mut source = MemSource::new(decided(alloc)?, Vec::new(alloc));
-        let mut sink = MemSink::new(alloc, Vec::new(alloc));
-        let status = run(&rt, alloc, words, &mut source, &mut sink);
-        assert_eq!(rt; status, Status::Usage);
-        assert_eq!(rt; status.code(), 2);
-        assert!(rt; sink.octets().is_empty());
+        let feed = octets_of(alloc, ONCE_DECIDED)?;
+        let (status, written) = outcome(
+            &rt,
+            alloc,
+            words,
+            feed,
+            (Vec::new(alloc), Vec::new(alloc)),
+        )?;
+        assert_eq!(rt; (status, status.code()), (Status::Usage, 2));
+        assert!(rt; written.is_empty());
     }
     Ok(())
 }
@@ -174,27 +259,27 @@ fn other_words_are_no_command(rt: HostRuntime) -> Result<(), Fail> {
 #[test]
 fn a_failed_read_or_write_ends_the_run(rt: HostRuntime) -> Result<(), Fail> {
     let alloc = rt.alloc();
-    let second = vec![in alloc; 2]?;
-    let mut source = MemSource::new(decided(alloc)?, second);
-    let mut sink = MemSink::new(alloc, Vec::new(alloc));
-    let status = run(&rt, alloc, &["replay"], &mut source, &mut sink);
-    assert_eq!(rt; status, Status::Read);
-    assert_eq!(rt; status.code(), 5);
-    let first = vec![in alloc; 1]?;
-    let mut source = MemSource::new(decided(alloc)?, Vec::new(alloc));
-    let mut sink = MemSink::new(alloc, first);
-    let status = run(&rt, alloc, &["replay"], &mut source, &mut sink);
-    assert_eq!(rt; status, Status::Write);
-    assert_eq!(rt; status.code(), 6);
-    assert!(rt; sink.octets().is_empty());
+    let rows: [(&[u64], &[u64], Status, u8); 2] = [
+        (&[2], &[], Status::Read, 5),
+        (&[], &[1], Status::Write, 6),
+    ];
+    for (reads, writes, wanted, code) in rows {
+        let feed = octets_of(alloc, ONCE_DECIDED)?;
+        let fails = (
+            Vec::from_slice(alloc, reads)?,
+            Vec::from_slice(alloc, writes)?,
+        );
+        let (status, written) = outcome(&rt, alloc, &["replay"], feed, fails)?;
+        assert_eq!(rt; (status, status.code()), (wanted, code));
+        assert!(rt; written.is_empty());
+    }
     Ok(())
 }
 
 #[test]
 fn no_octet_behind_the_end_is_read(rt: HostRuntime) -> Result<(), Fail> {
     let alloc = rt.alloc();
-    let mut feed = decided(alloc)?;
-    add(&mut feed, b'Z', 0, &[])?;
+    let mut feed = octets_of(alloc, ENDED)?;
     feed.extend_from_slice(b"more")?;
     let mut source = MemSource::new(feed, Vec::new(alloc));
     let mut sink = MemSink::new(alloc, Vec::new(alloc));

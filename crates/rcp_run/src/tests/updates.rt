@@ -1,275 +1,442 @@
 //! UPDATEs of any content: what they announce and withdraw, and how faulty ones are answered.
 
 use super::{
-    ANNOUNCEMENT, WITHDRAWAL, add, add_summary, announcement, connected, decided, message,
-    replayed, told,
+    BY_65001, CONNECTED, Case, DECIDED, DRAIN, FOUR, FROM_A, FROM_C, IGP, MARKER, NEXT_HOP, ONE,
+    PREF, PREFIX, Record, SENT, THREE, TWO, WITHDRAWAL, ZERO, add, done, joined, octets_of,
+    written,
 };
-use crate::Status;
 use std::alloc::Global;
 use std::test::Fail;
-
-// Octets of path attributes (RFC 4271 section 4.3).
-const IGP: &[u8] = &[0x40, 0x01, 0x01, 0x00];
-
-const BY_65001: &[u8] = &[0x40, 0x02, 0x04, 0x02, 0x01, 0xfd, 0xe9];
+use std::thread::Threads;
 
 const BY_65002: &[u8] = &[0x40, 0x02, 0x04, 0x02, 0x01, 0xfd, 0xea];
 
-const PREF_100: &[u8] = &[0x40, 0x05, 0x04, 0x00, 0x00, 0x00, 0x64];
+// A MULTI_EXIT_DISC without its last octet.
+const EXIT: &[u8] = &[0x80, 0x04, 0x04, 0, 0, 0];
 
-// 203.0.113.0/24
-const PREFIX: &[u8] = &[0x18, 0xcb, 0x00, 0x71];
+const UPDATE_59: &[u8] = &[0, 59, 2, 0, 0, 0, 32];
 
-fn next_hop(router: u8) -> [u8; 7] {
-    [0x40, 0x03, 0x04, 10, 0, 0, router]
-}
-
-// An UPDATE of these pieces: its withdrawn routes, its attributes and its NLRI.
-fn update(
-    alloc: Global,
-    withdrawn: &[u8],
-    attributes: &[&[u8]],
-    nlri: &[u8],
-) -> Result<Vec<u8>, Fail> {
-    let mut attrs = Vec::new(alloc);
-    for piece in attributes {
-        attrs.extend_from_slice(piece)?;
-    }
-    let mut body = Vec::new(alloc);
-    body.extend_from_slice(&u16::try_from(withdrawn.len())?.to_be_bytes())?;
-    body.extend_from_slice(withdrawn)?;
-    body.extend_from_slice(&u16::try_from(attrs.len())?.to_be_bytes())?;
-    body.extend_from_slice(&attrs)?;
-    body.extend_from_slice(nlri)?;
-    message(alloc, 2, &body)
-}
-
-// An announcement of a router with this path and this MULTI_EXIT_DISC.
-fn with_exit(alloc: Global, router: u8, path: &[u8], exit: u8) -> Result<Vec<u8>, Fail> {
-    let exit = [0x80, 0x04, 0x04, 0, 0, 0, exit];
-    update(
-        alloc,
-        &[],
-        &[IGP, path, &next_hop(router), &exit, PREF_100],
-        PREFIX,
-    )
-}
-
-#[test]
-fn exit_discriminators_of_one_neighbour_are_compared(rt: HostRuntime) -> Result<(), Fail> {
-    let alloc = rt.alloc();
-    let mut feed = Vec::new(alloc);
-    let roster = "as 65000\nid 10.0.0.254\nshards 2\nhold 90\narea 0.0.0.0\n\
+const FOUR_ROUTERS: &[u8] = b"as 65000\nid 10.0.0.254\nshards 2\nhold 90\narea 0.0.0.0\n\
 router 10.0.0.1 10.0.0.1\nrouter 10.0.0.2 10.0.0.2\nrouter 10.0.0.3 10.0.0.3\nrouter 10.0.0.4 10.0.0.4\n\
 link 10.0.0.1 10.0.0.2 1\nlink 10.0.0.2 10.0.0.3 30\nlink 10.0.0.2 10.0.0.4 5\n";
-    add(&mut feed, b'C', 0, roster.as_bytes())?;
-    for router in 1..5 {
-        add(&mut feed, b'E', u32::from(router), &[10, 0, 0, router])?;
-    }
-    add(&mut feed, b'B', 1, &with_exit(alloc, 1, BY_65001, 20)?)?;
-    add(&mut feed, b'B', 3, &with_exit(alloc, 3, BY_65001, 10)?)?;
-    add(&mut feed, b'B', 4, &with_exit(alloc, 4, BY_65002, 50)?)?;
-    add(&mut feed, b'D', 0, &[])?;
-    add(&mut feed, b'Z', 0, &[])?;
-    let (status, written) = replayed(&rt, alloc, feed)?;
-    assert_eq!(rt; status, Status::Done);
-    let told: [u8; 59] = [
-        0xff, 0xff, 0xff, 0xff, 0xff, 0xff, 0xff, 0xff, 0xff, 0xff, 0xff, 0xff, 0xff, 0xff, 0xff,
-        0xff, 0x00, 0x3b, 0x02, 0x00, 0x00, 0x00, 0x20, 0x40, 0x01, 0x01, 0x00, 0x40, 0x02, 0x04,
-        0x02, 0x01, 0xfd, 0xea, 0x40, 0x03, 0x04, 0x0a, 0x00, 0x00, 0x04, 0x80, 0x04, 0x04, 0x00,
-        0x00, 0x00, 0x32, 0x40, 0x05, 0x04, 0x00, 0x00, 0x00, 0x64, 0x18, 0xcb, 0x00, 0x71,
-    ];
-    let mut wanted = Vec::new(alloc);
-    add(&mut wanted, b'B', 1, &told)?;
-    add(&mut wanted, b'B', 2, &told)?;
-    add_summary(&mut wanted, 4, 1, 2)?;
-    assert_eq!(rt; written.as_slice(), wanted.as_slice());
-    Ok(())
-}
 
-// A feed in which A announces a message and it is decided.
-fn deciding(alloc: Global, message: &[u8]) -> Result<Vec<u8>, Fail> {
-    let mut feed = connected(alloc)?;
-    add(&mut feed, b'B', 1, message)?;
-    add(&mut feed, b'D', 0, &[])?;
-    add(&mut feed, b'Z', 0, &[])?;
-    Ok(feed)
-}
+// The announcement of a fourth router by another neighbour.
+const FROM_D: &[&[u8]] = &[
+    MARKER,
+    UPDATE_59,
+    IGP,
+    BY_65002,
+    NEXT_HOP,
+    &[4],
+    EXIT,
+    &[50],
+    PREF,
+    &[100],
+    PREFIX,
+];
+
+const NOTHING_SENT: &[Record] = &[(b'S', 0, &[THREE, ONE, ZERO])];
+
+const SENT_BY_A: &[Record] = &[
+    (b'B', 2, FROM_A),
+    (b'B', 3, FROM_A),
+    (b'S', 0, &[THREE, ONE, TWO]),
+];
+
+// What A sends on after a faulty UPDATE, which is of no account, and what is written then: A's routes are gone, so that
+// B gets C's.
+const AFTER: &[Record] = &[(b'B', 1, &[b"anything"]), (b'B', 1, FROM_A), DRAIN];
+
+const GONE: &[Record] = &[(b'B', 2, FROM_C), (b'S', 0, &[TWO, ONE, TWO])];
+
+const COMPARED: &[Case] = &[
+    (
+        "exit discriminators of one neighbour are compared",
+        &[&[
+            (b'C', 0, &[FOUR_ROUTERS]),
+            (b'E', 1, &[&[10, 0, 0, 1]]),
+            (b'E', 2, &[&[10, 0, 0, 2]]),
+            (b'E', 3, &[&[10, 0, 0, 3]]),
+            (b'E', 4, &[&[10, 0, 0, 4]]),
+            (
+                b'B',
+                1,
+                &[
+                    MARKER,
+                    UPDATE_59,
+                    IGP,
+                    BY_65001,
+                    NEXT_HOP,
+                    &[1],
+                    EXIT,
+                    &[20],
+                    PREF,
+                    &[100],
+                    PREFIX,
+                ],
+            ),
+            (
+                b'B',
+                3,
+                &[
+                    MARKER,
+                    UPDATE_59,
+                    IGP,
+                    BY_65001,
+                    NEXT_HOP,
+                    &[3],
+                    EXIT,
+                    &[10],
+                    PREF,
+                    &[100],
+                    PREFIX,
+                ],
+            ),
+            (b'B', 4, FROM_D),
+            DRAIN,
+        ]],
+        &[&[
+            (b'B', 1, FROM_D),
+            (b'B', 2, FROM_D),
+            (b'S', 0, &[FOUR, ONE, TWO]),
+        ]],
+    ),
+    (
+        "a looped route is no candidate",
+        &[
+            CONNECTED,
+            &[
+                (
+                    b'B',
+                    1,
+                    &[
+                        MARKER,
+                        &[0, 54, 2, 0, 0, 0, 27],
+                        IGP,
+                        &[0x40, 0x02, 0x06, 0x02, 0x02, 0xfd, 0xe9, 0xfd, 0xe8],
+                        NEXT_HOP,
+                        &[1],
+                        PREF,
+                        &[100],
+                        PREFIX,
+                    ],
+                ),
+                DRAIN,
+            ],
+        ],
+        &[NOTHING_SENT],
+    ),
+];
 
 #[test]
-fn looped_route_is_no_candidate(rt: HostRuntime) -> Result<(), Fail> {
-    let alloc = rt.alloc();
-    let path = [0x40, 0x02, 0x06, 0x02, 0x02, 0xfd, 0xe9, 0xfd, 0xe8];
-    let announced = update(alloc, &[], &[IGP, &path, &next_hop(1), PREF_100], PREFIX)?;
-    let (status, written) = replayed(&rt, alloc, deciding(alloc, &announced)?)?;
-    assert_eq!(rt; status, Status::Done);
-    let mut wanted = Vec::new(alloc);
-    add_summary(&mut wanted, 3, 1, 0)?;
-    assert_eq!(rt; written.as_slice(), wanted.as_slice());
+fn routes_are_compared_and_looped_ones_left_out(rt: HostRuntime) -> Result<(), Fail> {
+    for (shows, fed, wanted) in COMPARED {
+        let found = written(&rt, rt.alloc(), fed)?;
+        let wanted = octets_of(rt.alloc(), wanted)?;
+        assert_eq!(rt; found.as_slice(), wanted.as_slice(), "{shows}");
+    }
     Ok(())
 }
 
-// The announcement with an unrecognised attribute, of these flags and with so many octets in its value.
-fn with_unrecognised(alloc: Global, flags: u8, count: u16) -> Result<Vec<u8>, Fail> {
-    let [high, low] = count.to_be_bytes();
-    let value = vec![in alloc; 7; usize::from(count)]?;
-    let head = [flags, 99, high, low];
-    update(
-        alloc,
-        &[],
-        &[IGP, BY_65001, &next_hop(1), PREF_100, &head, &value],
-        PREFIX,
-    )
+const TAKEN: &[Case] = &[
+    (
+        "a prefix that is withdrawn and announced is announced",
+        &[
+            CONNECTED,
+            &[
+                (
+                    b'B',
+                    1,
+                    &[
+                        MARKER,
+                        &[0, 56, 2, 0, 4],
+                        PREFIX,
+                        &[0, 25],
+                        IGP,
+                        BY_65001,
+                        NEXT_HOP,
+                        &[1],
+                        PREF,
+                        &[100],
+                        PREFIX,
+                    ],
+                ),
+                DRAIN,
+            ],
+        ],
+        &[SENT_BY_A],
+    ),
+    (
+        "an UPDATE that says nothing changes nothing",
+        &[
+            CONNECTED,
+            &[(b'B', 1, &[MARKER, &[0, 23, 2, 0, 0, 0, 0]]), DRAIN],
+        ],
+        &[&[(b'S', 0, &[THREE, ZERO, ZERO])]],
+    ),
+];
+
+#[test]
+fn withdrawn_and_empty_updates(rt: HostRuntime) -> Result<(), Fail> {
+    for (shows, fed, wanted) in TAKEN {
+        let found = written(&rt, rt.alloc(), fed)?;
+        let wanted = octets_of(rt.alloc(), wanted)?;
+        assert_eq!(rt; found.as_slice(), wanted.as_slice(), "{shows}");
+    }
+    Ok(())
+}
+
+const LESS: &[Case] = &[
+    (
+        "a withdrawn route gives way to the other",
+        &[
+            DECIDED,
+            &[(b'B', 1, WITHDRAWAL), (b'B', 1, WITHDRAWAL), DRAIN],
+        ],
+        &[
+            SENT,
+            &[
+                (b'B', 1, FROM_C),
+                (b'B', 2, FROM_C),
+                (b'S', 0, &[THREE, ONE, THREE]),
+            ],
+        ],
+    ),
+    (
+        "a missing attribute is answered and ends the session",
+        &[
+            DECIDED,
+            &[(
+                b'B',
+                1,
+                &[
+                    MARKER,
+                    &[0, 45, 2, 0, 0, 0, 18],
+                    IGP,
+                    BY_65001,
+                    PREF,
+                    &[100],
+                    PREFIX,
+                ],
+            )],
+            AFTER,
+        ],
+        &[
+            SENT,
+            &[
+                (b'B', 1, &[MARKER, &[0, 22, 3, 3, 3, 3]]),
+                (b'X', 1, &[&[1, 3, 3]]),
+            ],
+            GONE,
+        ],
+    ),
+];
+
+#[test]
+fn withdrawn_route_gives_way_and_missing_attribute_is_answered(
+    rt: HostRuntime,
+) -> Result<(), Fail> {
+    for (shows, fed, wanted) in LESS {
+        let found = written(&rt, rt.alloc(), fed)?;
+        let wanted = octets_of(rt.alloc(), wanted)?;
+        assert_eq!(rt; found.as_slice(), wanted.as_slice(), "{shows}");
+    }
+    Ok(())
+}
+
+const ANSWERED: &[Case] = &[
+    (
+        "a faulty value of an attribute is answered and ends the session",
+        &[
+            DECIDED,
+            &[(
+                b'B',
+                1,
+                &[
+                    MARKER,
+                    &[0, 52, 2, 0, 0, 0, 25, 0x40, 0x01, 0x01, 0x03],
+                    BY_65001,
+                    NEXT_HOP,
+                    &[1],
+                    PREF,
+                    &[100],
+                    PREFIX,
+                ],
+            )],
+            AFTER,
+        ],
+        &[
+            SENT,
+            &[
+                (
+                    b'B',
+                    1,
+                    &[MARKER, &[0, 25, 3, 3, 6, 0x40, 0x01, 0x01, 0x03]],
+                ),
+                (b'X', 1, &[&[1, 3, 6]]),
+            ],
+            GONE,
+        ],
+    ),
+    (
+        "an attribute that stands twice is answered and ends the session",
+        &[
+            DECIDED,
+            &[(
+                b'B',
+                1,
+                &[
+                    MARKER,
+                    &[0, 56, 2, 0, 0, 0, 29],
+                    IGP,
+                    IGP,
+                    BY_65001,
+                    NEXT_HOP,
+                    &[1],
+                    PREF,
+                    &[100],
+                    PREFIX,
+                ],
+            )],
+            AFTER,
+        ],
+        &[
+            SENT,
+            &[
+                (b'B', 1, &[MARKER, &[0, 21, 3, 3, 1]]),
+                (b'X', 1, &[&[1, 3, 1]]),
+            ],
+            GONE,
+        ],
+    ),
+];
+
+#[test]
+fn faulty_attribute_is_answered_and_ends_the_session(rt: HostRuntime) -> Result<(), Fail> {
+    for (shows, fed, wanted) in ANSWERED {
+        let found = written(&rt, rt.alloc(), fed)?;
+        let wanted = octets_of(rt.alloc(), wanted)?;
+        assert_eq!(rt; found.as_slice(), wanted.as_slice(), "{shows}");
+    }
+    Ok(())
+}
+
+const LONG_PREFIX: &[Case] = &[(
+    "a prefix of 33 bits is answered and ends the session",
+    &[
+        DECIDED,
+        &[(
+            b'B',
+            1,
+            &[
+                MARKER,
+                &[0, 54, 2, 0, 0, 0, 25],
+                IGP,
+                BY_65001,
+                NEXT_HOP,
+                &[1],
+                PREF,
+                &[100],
+                &[0x21, 0xcb, 0x00, 0x71, 0x00, 0x00],
+            ],
+        )],
+        AFTER,
+    ],
+    &[
+        SENT,
+        &[
+            (b'B', 1, &[MARKER, &[0, 21, 3, 3, 10]]),
+            (b'X', 1, &[&[1, 3, 10]]),
+        ],
+        GONE,
+    ],
+)];
+
+#[test]
+fn prefix_of_33_bits_is_answered_and_ends_the_session(rt: HostRuntime) -> Result<(), Fail> {
+    for (shows, fed, wanted) in LONG_PREFIX {
+        let found = written(&rt, rt.alloc(), fed)?;
+        let wanted = octets_of(rt.alloc(), wanted)?;
+        assert_eq!(rt; found.as_slice(), wanted.as_slice(), "{shows}");
+    }
+    Ok(())
+}
+
+// An UPDATE of A up to the value of an unrecognised attribute: of 4,039 octets, as it is sent on, with the flag Partial,
+// and of 4,040 octets.
+const LONGEST: &[&[u8]] = &[
+    MARKER,
+    &[15, 255, 2, 0, 0, 15, 228],
+    IGP,
+    BY_65001,
+    NEXT_HOP,
+    &[1],
+    PREF,
+    &[100],
+    &[0xd0, 99, 15, 199],
+];
+
+const LONGEST_SENT: &[&[u8]] = &[
+    MARKER,
+    &[15, 255, 2, 0, 0, 15, 228],
+    IGP,
+    BY_65001,
+    NEXT_HOP,
+    &[1],
+    PREF,
+    &[100],
+    &[0xf0, 99, 15, 199],
+];
+
+const LONGER: &[&[u8]] = &[
+    MARKER,
+    &[16, 0, 2, 0, 0, 15, 229],
+    IGP,
+    BY_65001,
+    NEXT_HOP,
+    &[1],
+    PREF,
+    &[100],
+    &[0xd0, 99, 15, 200],
+];
+
+const ONCE_CONNECTED: &[&[Record]] = &[CONNECTED];
+
+const ONCE_NOTHING: &[&[Record]] = &[NOTHING_SENT];
+
+// The UPDATE with so many octets of value.
+fn with_value(alloc: Global, front: &[&[u8]], count: usize) -> Result<Vec<u8>, Fail> {
+    let mut message = joined(alloc, front)?;
+    message.extend_from_slice(&vec![in alloc; 7; count]?)?;
+    message.extend_from_slice(PREFIX)?;
+    Ok(message)
+}
+
+// What is written where A sends it and it is decided.
+fn decided<R: Threads + Sync>(rt: &R, alloc: Global, message: &[u8]) -> Result<Vec<u8>, Fail> {
+    let mut feed = octets_of(alloc, ONCE_CONNECTED)?;
+    add(&mut feed, b'B', 1, message)?;
+    add(&mut feed, b'D', 0, &[])?;
+    done(rt, alloc, feed)
+}
+
+// B and C get the message.
+fn sent(alloc: Global, message: &[u8]) -> Result<Vec<u8>, Fail> {
+    let mut out = Vec::new(alloc);
+    add(&mut out, b'B', 2, message)?;
+    add(&mut out, b'B', 3, message)?;
+    add(&mut out, b'S', 0, &joined(alloc, &[THREE, ONE, TWO])?)?;
+    Ok(out)
 }
 
 #[test]
 fn longest_route_is_sent_and_one_octet_more_is_not(rt: HostRuntime) -> Result<(), Fail> {
     let alloc = rt.alloc();
-    let announced = with_unrecognised(alloc, 0xd0, 4039)?;
-    assert_eq!(rt; announced.len(), 4095);
-    let (status, written) = replayed(&rt, alloc, deciding(alloc, &announced)?)?;
-    assert_eq!(rt; status, Status::Done);
-    let sent = with_unrecognised(alloc, 0xf0, 4039)?;
-    let mut wanted = Vec::new(alloc);
-    add(&mut wanted, b'B', 2, &sent)?;
-    add(&mut wanted, b'B', 3, &sent)?;
-    add_summary(&mut wanted, 3, 1, 2)?;
-    assert_eq!(rt; written.as_slice(), wanted.as_slice());
-    let announced = with_unrecognised(alloc, 0xd0, 4040)?;
-    assert_eq!(rt; announced.len(), 4096);
-    let (status, written) = replayed(&rt, alloc, deciding(alloc, &announced)?)?;
-    assert_eq!(rt; status, Status::Done);
-    let mut wanted = Vec::new(alloc);
-    add_summary(&mut wanted, 3, 1, 0)?;
-    assert_eq!(rt; written.as_slice(), wanted.as_slice());
-    Ok(())
-}
-
-#[test]
-fn prefix_withdrawn_and_announced_is_announced(rt: HostRuntime) -> Result<(), Fail> {
-    let alloc = rt.alloc();
-    let attributes = [IGP, BY_65001, &next_hop(1), PREF_100];
-    let announced = update(alloc, PREFIX, &attributes, PREFIX)?;
-    let (status, written) = replayed(&rt, alloc, deciding(alloc, &announced)?)?;
-    assert_eq!(rt; status, Status::Done);
-    let mut wanted = Vec::new(alloc);
-    add(&mut wanted, b'B', 2, &ANNOUNCEMENT)?;
-    add(&mut wanted, b'B', 3, &ANNOUNCEMENT)?;
-    add_summary(&mut wanted, 3, 1, 2)?;
-    assert_eq!(rt; written.as_slice(), wanted.as_slice());
-    Ok(())
-}
-
-#[test]
-fn withdrawn_route_gives_way_to_the_other(rt: HostRuntime) -> Result<(), Fail> {
-    let alloc = rt.alloc();
-    let mut feed = decided(alloc)?;
-    add(&mut feed, b'B', 1, &WITHDRAWAL)?;
-    add(&mut feed, b'B', 1, &WITHDRAWAL)?;
-    add(&mut feed, b'D', 0, &[])?;
-    add(&mut feed, b'Z', 0, &[])?;
-    let (status, written) = replayed(&rt, alloc, feed)?;
-    assert_eq!(rt; status, Status::Done);
-    let mut wanted = told(alloc)?;
-    add(&mut wanted, b'B', 1, &announcement(3, 100))?;
-    add(&mut wanted, b'B', 2, &announcement(3, 100))?;
-    add_summary(&mut wanted, 3, 1, 3)?;
-    assert_eq!(rt; written.as_slice(), wanted.as_slice());
-    Ok(())
-}
-
-#[test]
-fn update_that_says_nothing_changes_nothing(rt: HostRuntime) -> Result<(), Fail> {
-    let alloc = rt.alloc();
-    let announced = update(alloc, &[], &[], &[])?;
-    assert_eq!(rt; announced.len(), 23);
-    let (status, written) = replayed(&rt, alloc, deciding(alloc, &announced)?)?;
-    assert_eq!(rt; status, Status::Done);
-    let mut wanted = Vec::new(alloc);
-    add_summary(&mut wanted, 3, 0, 0)?;
-    assert_eq!(rt; written.as_slice(), wanted.as_slice());
-    Ok(())
-}
-
-// A feed in which A sends a message when it was decided, and then anything, which is of no account where its session has
-// ended.
-fn interrupted(alloc: Global, message: &[u8]) -> Result<Vec<u8>, Fail> {
-    let mut feed = decided(alloc)?;
-    add(&mut feed, b'B', 1, message)?;
-    add(&mut feed, b'B', 1, b"anything")?;
-    add(&mut feed, b'B', 1, &ANNOUNCEMENT)?;
-    add(&mut feed, b'D', 0, &[])?;
-    add(&mut feed, b'Z', 0, &[])?;
-    Ok(feed)
-}
-
-// The answer to it, a NOTIFICATION with this subcode of an UPDATE Message Error and with this data. The routes of A are
-// gone, so that B is told of C's.
-fn answered(alloc: Global, sub: u8, data: &[u8]) -> Result<Vec<u8>, Fail> {
-    let mut out = told(alloc)?;
-    let mut body = Vec::from_slice(alloc, &[3, sub])?;
-    body.extend_from_slice(data)?;
-    add(&mut out, b'B', 1, &message(alloc, 3, &body)?)?;
-    add(&mut out, b'X', 1, &[1, 3, sub])?;
-    add(&mut out, b'B', 2, &announcement(3, 100))?;
-    add_summary(&mut out, 2, 1, 2)?;
-    Ok(out)
-}
-
-#[test]
-fn faulty_attribute_value_is_answered_and_ends_the_session(rt: HostRuntime) -> Result<(), Fail> {
-    let alloc = rt.alloc();
-    let origin = [0x40, 0x01, 0x01, 0x03];
-    let faulty = update(
-        alloc,
-        &[],
-        &[&origin, BY_65001, &next_hop(1), PREF_100],
-        PREFIX,
-    )?;
-    let (status, written) = replayed(&rt, alloc, interrupted(alloc, &faulty)?)?;
-    assert_eq!(rt; status, Status::Done);
-    let wanted = answered(alloc, 6, &origin)?;
-    assert_eq!(rt; written.as_slice(), wanted.as_slice());
-    Ok(())
-}
-
-#[test]
-fn attribute_that_stands_twice_is_answered_and_ends_the_session(
-    rt: HostRuntime,
-) -> Result<(), Fail> {
-    let alloc = rt.alloc();
-    let faulty = update(
-        alloc,
-        &[],
-        &[IGP, IGP, BY_65001, &next_hop(1), PREF_100],
-        PREFIX,
-    )?;
-    let (status, written) = replayed(&rt, alloc, interrupted(alloc, &faulty)?)?;
-    assert_eq!(rt; status, Status::Done);
-    let wanted = answered(alloc, 1, &[])?;
-    assert_eq!(rt; written.as_slice(), wanted.as_slice());
-    Ok(())
-}
-
-#[test]
-fn missing_attribute_is_answered_and_ends_the_session(rt: HostRuntime) -> Result<(), Fail> {
-    let alloc = rt.alloc();
-    let faulty = update(alloc, &[], &[IGP, BY_65001, PREF_100], PREFIX)?;
-    let (status, written) = replayed(&rt, alloc, interrupted(alloc, &faulty)?)?;
-    assert_eq!(rt; status, Status::Done);
-    let wanted = answered(alloc, 3, &[0x03])?;
-    assert_eq!(rt; written.as_slice(), wanted.as_slice());
-    Ok(())
-}
-
-#[test]
-fn prefix_of_33_bits_is_answered_and_ends_the_session(rt: HostRuntime) -> Result<(), Fail> {
-    let alloc = rt.alloc();
-    let nlri = [0x21, 0xcb, 0x00, 0x71, 0x00, 0x00];
-    let faulty = update(alloc, &[], &[IGP, BY_65001, &next_hop(1), PREF_100], &nlri)?;
-    let (status, written) = replayed(&rt, alloc, interrupted(alloc, &faulty)?)?;
-    assert_eq!(rt; status, Status::Done);
-    let wanted = answered(alloc, 10, &[])?;
-    assert_eq!(rt; written.as_slice(), wanted.as_slice());
+    let found = decided(&rt, alloc, &with_value(alloc, LONGEST, 4039)?)?;
+    let wanted = sent(alloc, &with_value(alloc, LONGEST_SENT, 4039)?)?;
+    assert_eq!(rt; found.as_slice(), wanted.as_slice());
+    let found = decided(&rt, alloc, &with_value(alloc, LONGER, 4040)?)?;
+    let wanted = octets_of(alloc, ONCE_NOTHING)?;
+    assert_eq!(rt; found.as_slice(), wanted.as_slice());
     Ok(())
 }
