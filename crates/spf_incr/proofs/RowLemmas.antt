@@ -15,7 +15,7 @@ use Rattle.cost_rows.proofs.NameLemmas.{apart, found-place, found-unnamed, names
 use Rattle.spf_incr.specs.declared.way.Hop.{Hop}
 use Rattle.spf_incr.specs.declared.way.Way.{Way}
 use Rattle.spf_incr.specs.declared.way.Way.TheVariants as way
-use Rattle.spf_incr.specs.Changes.{IsWith, IsHop, IsTight, IsNotLower, IsUntouched, IsWay, at_place, sum_over, lowered}
+use Rattle.spf_incr.specs.Changes.{IsWith, IsHop, IsTight, IsNotLower, IsStill, IsUntouched, IsWay, at_place, sum_over, lowered}
 use Rattle.spf_incr.proofs.EdgeLemmas.{added_same, removed_same, added_cost}
 
 -- ---- a row that a change doesn't touch
@@ -34,17 +34,26 @@ module _ (edges : List Edge) (names : List ℕ) (root : ℕ) (row : List (Option
   no_lower_edge higher n from =
       subst (λ c. IsSomeAnd (cost edges root edge.to) (λ m. m ≤ n + c)) is.cost (subst (λ o. IsSomeAnd o (λ m. m ≤ n + hop.cost)) at_end (higher n (at_beginning ∙ from)))
 
+-- a row for which an edge that came or went is still
+pub still_row : (before after : List Edge) (names : List ℕ) (root : ℕ) (edge : Edge) (hop : Hop) (row : List (Option ℕ)) → IsStrictlyIncreasing names → IsHop names edge hop → IsWith before edge after → IsFound before names root row → IsStill hop true row
+    → IsFound after names root row
+still_row before after names root edge hop row rising is with found still = record {
+  places = found.places;
+  exact = λ v. found.exact v ∙ sym (added_same before edge after with root (no_lower_edge before names root row edge hop rising is found still) v);
+}
+
+pub loose_row : (before after : List Edge) (names : List ℕ) (root : ℕ) (edge : Edge) (hop : Hop) (row : List (Option ℕ)) → IsStrictlyIncreasing names → IsHop names edge hop → IsWith after edge before → IsFound before names root row → IsStill hop false row
+    → IsFound after names root row
+loose_row before after names root edge hop row rising is with found loose = record {
+  places = found.places;
+  exact = λ v. found.exact v ∙ sym (removed_same after edge before with root (loose_edge before names root row edge hop rising is found loose) v);
+}
+
 pub untouched_row : (before after : List Edge) (names : List ℕ) (root : ℕ) (change : Way) (row : List (Option ℕ)) → IsStrictlyIncreasing names → IsWay before after names change → IsFound before names root row → IsUntouched change row
     → IsFound after names root row
 untouched_row before after names root way.Anew row rising is found stays = absurd stays
-untouched_row before after names root (way.Removed hop) row rising is found stays = record {
-  places = found.places;
-  exact = λ v. found.exact v ∙ sym (removed_same after is.0 before is.2 root (loose_edge before names root row is.0 hop rising is.1 found stays) v);
-}
-untouched_row before after names root (way.Added hop ends) row rising is found stays = record {
-  places = found.places;
-  exact = λ v. found.exact v ∙ sym (added_same before is.0 after is.2 root (no_lower_edge before names root row is.0 hop rising is.1 found stays) v);
-}
+untouched_row before after names root (way.Removed hop) row rising is found stays = loose_row before after names root is.0 hop row rising is.1 is.2 found stays
+untouched_row before after names root (way.Added hop ends) row rising is found stays = still_row before after names root is.0 hop row rising is.1 is.2 found stays
 
 -- ---- a row lowered by an edge that was added
 

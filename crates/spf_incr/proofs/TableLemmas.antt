@@ -9,7 +9,10 @@ use Rattle.std.proofs.lemmas.Bool.{false≢true}
 use Rattle.rcp_model.specs.Edges.{include_edge}
 use Rattle.rcp_model.specs.Graphs.{exclude_edge}
 use Rattle.cost_rows.specs.Engines.{graph_before, AreChanges}
-use Rattle.spf_incr.specs.Changes.{IsWith}
+use Rattle.std.specs.List.Sorted.{IsStrictlyIncreasing}
+use Rattle.spf_incr.specs.declared.way.Hop.{Hop}
+use Rattle.spf_incr.specs.Changes.{IsWith, IsHop, IsStill}
+use Rattle.spf_incr.proofs.RowLemmas.{still_row, loose_row}
 use Rattle.spf_incr.proofs.EdgeLemmas.{with_included, with_excluded}
 use Rattle.rcp_base.specs.declared.names.Member.{Member}
 use Rattle.rcp_base.specs.declared.names.Edge.{Edge}
@@ -263,3 +266,25 @@ pub engine_changes : (a b : EngineOf) (names : List ℕ) (rows rows' : List (Lis
 engine_changes a b names rows rows' pairs unspent unspent' named named' is is' are =
     changes_same (engine_costs a) (costs_by names rows) (engine_costs b) (costs_by names rows') pairs
     (λ slot router. rw (unspent, named, is) refl) (λ slot router. rw (unspent', is') (ap (λ names. costs_by names b.rows slot router) (sym named'))) are
+
+-- rows that an edge leaves as they are
+pub still_rows : (edge : Edge) (added : Bool) (after : List Edge) (names : List ℕ) (members : List Member) (rows : List (List (Option ℕ))) (hop : Hop) → (added ≡ true → Contains after edge) → IsStrictlyIncreasing names → IsHop names edge hop
+    → AreRows (graph_before edge added after) names members rows → ((slot : ℕ) → slot < length rows → IsStill hop added (row_at rows slot)) → AreRows after names members rows
+still_rows edge true after names members rows hop there rising is over still = record {
+  count = over.count;
+  named = over.named;
+  exact = λ slot root seat. still_row (exclude_edge edge after) after names root edge hop (row_at rows slot) rising is (with_excluded edge after (there refl)) (over.exact slot root seat)
+      (still slot (let h = slot_within members slot root seat in let count = over.count in omega arith));
+}
+still_rows edge false after names members rows hop there rising is over still = record {
+  count = over.count;
+  named = over.named;
+  exact = λ slot root seat. loose_row (include_edge edge after) after names root edge hop (row_at rows slot) rising is (with_included edge after) (over.exact slot root seat)
+      (still slot (let h = slot_within members slot root seat in let count = over.count in omega arith));
+}
+
+pub no_changes : (costs : ℕ → ℕ → Option ℕ) → AreChanges costs costs []
+no_changes costs = record {
+  rising = λ i j d less within. absurd (omega arith);
+  exact = λ slot router. (λ member. absurd (Contains-none (slot, router) member), λ differs. absurd (differs refl));
+}

@@ -1,5 +1,5 @@
 -- Changes of one edge: when the costs from a root stay, and what they are otherwise.
-use Rattle.std.specs.Prelude.{◌≡◌, ℕ, ◌+◌, ◌<◌, ◌≤◌, ◌⊎◌, List, map, filter_map, zip, min, slice_get, slice_index_or, Contains, Option, Some, None, IsSomeAnd, if◌then◌else◌}
+use Rattle.std.specs.Prelude.{◌≡◌, ℕ, ◌+◌, ◌<◌, ◌≤◌, ◌⊎◌, List, map, filter_map, zip, min, slice_get, slice_index_or, Contains, Option, Some, None, IsSomeAnd, if◌then◌else◌, Bool, true, false}
 use Rattle.rcp_base.specs.declared.names.Edge.{Edge}
 use Rattle.rcp_model.specs.Costs.{lesser}
 use Rattle.rcp_model.specs.RouteServer.{same_cost}
@@ -32,11 +32,16 @@ IsTight row hop = (n : ℕ) × (at_place row hop.from ≡ Some n) × (at_place r
 abbrev pub IsNotLower : List (Option ℕ) → Hop → Type 0
 IsNotLower row hop = (n : ℕ) → at_place row hop.from ≡ Some n → IsSomeAnd (at_place row hop.to) (λ m. m ≤ n + hop.cost)
 
+-- an edge that came or went is such that a row stays as it is
+abbrev pub IsStill : Hop → Bool → List (Option ℕ) → Type 0
+IsStill hop true row = IsNotLower row hop
+IsStill hop false row = IsTight row hop → ⊥
+
 -- a change for which a row stays as it is
 abbrev pub IsUntouched : Way → List (Option ℕ) → Type 0
 IsUntouched way.Anew row = ⊥
-IsUntouched (way.Removed hop) row = IsTight row hop → ⊥
-IsUntouched (way.Added hop ends) row = IsNotLower row hop
+IsUntouched (way.Removed hop) row = IsStill hop false row
+IsUntouched (way.Added hop ends) row = IsStill hop true row
 
 -- what a way of change says of the edges before and after
 abbrev pub IsWay : List Edge → List Edge → List ℕ → Way → Type 0

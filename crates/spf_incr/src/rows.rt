@@ -8,7 +8,7 @@ ghost use Rattle.rcp_model.specs.Graphs.{IsGraph};
 ghost use Rattle.rcp_model.specs.Costs.{lesser};
 ghost use Rattle.rcp_model.specs.RouteServer.{same_cost};
 ghost use Rattle.cost_rows.specs.Search.{AreIndexed, IsFound, found_at};
-ghost use Rattle.spf_incr.specs.Changes.{IsTight, IsNotLower, IsUntouched, IsWay, IsHopWithin, at_place, sum_over, lowered, changed_pair, changed_pairs};
+ghost use Rattle.spf_incr.specs.Changes.{IsTight, IsNotLower, IsStill, IsUntouched, IsWay, IsHopWithin, at_place, sum_over, lowered, changed_pair, changed_pairs};
 
 use crate::way::{Hop, Way};
 use cost_rows::{Graph, Places, least_costs_by};
@@ -49,6 +49,19 @@ fn is_lower(row: &[Option<u32>], hop: &Hop) -> bool
         (Some(near), Some(far)) => near.saturating_add(hop.cost) < far,
         (Some(_), None) => true,
         (None, _) => false,
+    }
+}
+
+/// Whether an edge that came or went may change a row.
+pub fn may_change(row: &[Option<u32>], hop: &Hop, added: bool) -> bool
+    requires begins { hop.now.from < length row.now }
+    requires ends { hop.now.to < length row.now }
+    ensures { OnFalse result (IsStill hop.now added row.now) }
+{
+    if added {
+        is_lower(row, hop)
+    } else {
+        is_tight(row, hop)
     }
 }
 

@@ -1,6 +1,6 @@
 //! Tables: the least costs from each member to each router, as one edge after another comes or goes.
 
-ghost use Rattle.std.specs.Prelude.{◌≡◌, ℕ, ◌≤◌, ◌↔◌, true, false, List, length, map, Contains, Some, IfOk, OnOk, OnErr};
+ghost use Rattle.std.specs.Prelude.{◌≡◌, ℕ, ◌<◌, ◌≤◌, ◌↔◌, true, false, List, length, map, Contains, Some, IfOk, OnOk, OnErr};
 ghost use Rattle.std.specs.List.Sorted.{IsStrictlyIncreasing};
 ghost use Rattle.std.specs.Bool.{OnTrue, OnFalse};
 ghost use Rattle.rcp_base.specs.declared.names.Member.{Member};
@@ -9,10 +9,11 @@ ghost use Rattle.rcp_model.specs.RouteServer.{router_at};
 ghost use Rattle.rcp_model.specs.Graphs.{AreMembers, IsGraph};
 ghost use Rattle.cost_rows.specs.Search.{AreNames, AreIndexed, IsFound, found_at};
 ghost use Rattle.cost_rows.specs.Engines.{graph_before, AreChanges};
-ghost use Rattle.spf_incr.specs.Changes.{IsWay};
-ghost use Rattle.spf_incr.specs.Tables.{AreRows, costs_by};
+ghost use Rattle.spf_incr.specs.declared.way.Hop.{Hop};
+ghost use Rattle.spf_incr.specs.Changes.{IsHop, IsStill, IsWay};
+ghost use Rattle.spf_incr.specs.Tables.{AreRows, row_at, costs_by};
 
-use crate::rows::{cost_in, follow};
+use crate::rows::{cost_in, follow, may_change};
 use crate::way::{Hop, Way};
 use cost_rows::{Graph, Places, least_costs_by, names_of, place_of, places_in};
 use rcp_base::{Member, NoMemory, RouterId, Slot};
@@ -109,6 +110,45 @@ fn ends_have_places(names: &[RouterId], edge: &Edge, added: bool) -> bool
     ensures unnamed { OnFalse result (added ≡ true) }
 {
     !added || ends_are_named(names, edge)
+}
+
+/// An edge by the places of its ends.
+fn hop_of(names: &[RouterId], edge: &Edge) -> Hop
+    requires rising { IsStrictlyIncreasing names.now }
+    requires ends { Contains names.now edge.now.from × Contains names.now edge.now.to }
+    ensures { IsHop names.now edge.now result }
+{
+    Hop {
+        from: place_of(names, edge.from),
+        to: place_of(names, edge.to),
+        cost: edge.cost,
+    }
+}
+
+/// Whether no row has to change for an edge that came or went, and none is to be searched anew.
+fn changes_nothing(
+    names: &[RouterId],
+    rows: &[Vec<Option<u32>>],
+    edge: &Edge,
+    added: bool,
+    anew: bool,
+) -> bool
+    requires rising { IsStrictlyIncreasing names.now }
+    requires ends { Contains names.now edge.now.from × Contains names.now edge.now.to }
+    requires places { (slot : ℕ) → slot < length rows.now → length (row_at (map (λ row. row.items) rows.now) slot) ≡ length names.now }
+    ensures { OnTrue result ((hop : Hop) × IsHop names.now edge.now hop
+        × ((slot : ℕ) → slot < length rows.now → IsStill hop added (row_at (map (λ row. row.items) rows.now) slot))) }
+{
+    if anew {
+        return false;
+    }
+    let hop = hop_of(names, edge);
+    for row in rows {
+        if may_change(row.as_slice(), &hop, added) {
+            return false;
+        }
+    }
+    true
 }
 
 /// How rows follow a change to this graph: each searched anew, or by what the edge changes.
@@ -268,6 +308,15 @@ impl Table {
         ensures members { self.new.members ≡ self.old.members }
         ensures spent { OnErr result (self.new.is_spent ≡ true) }
     {
+        if changes_nothing(
+            self.names.as_slice(),
+            self.rows.as_slice(),
+            edge,
+            added,
+            anew,
+        ) {
+            return Ok(Vec::new(self.alloc));
+        }
         self.spent = true;
         // Costs are low because the edges are those of a graph.
         let _edges = graph.edges();
