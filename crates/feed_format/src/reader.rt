@@ -117,7 +117,7 @@ impl Reader {
         ensures read { result ≡ Err FeedRefusal.Read → Rose (S.faults source.old) (S.faults source.new) }
         ensures never_falls { NeverFalls (S.faults source.old) (S.faults source.new) }
 
-        // Memory is wanted only behind a faultless header: for its body, or for a connection that the whole record begins.
+        // Memory is wanted only after a faultless header: for its body, or for a connection that the whole record begins.
         ensures no_memory { result ≡ Err FeedRefusal.NoMemory → WantsMemory self.old (S.left source.old) (S.left source.new) }
 
         // A refusal ends the feed. It took no more than the record in front, a failed read less.

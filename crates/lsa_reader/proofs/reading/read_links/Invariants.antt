@@ -1,4 +1,4 @@
--- The links so far, in front of those that are left, are all; and no link is left behind that there wasn't.
+-- The links so far, in front of those that are left, are all; where some were read, the first one is whole.
 use Rattle.std.proofs.Common.{◌≡◌, ◌-◌, ◌<◌, IsSome}
 use Rattle.rcp_model.specs.RouterLsas.{links_in, link_at}
 use Rattle.lsa_reader.proofs.LinkLists.{with_front}
