@@ -91,7 +91,7 @@ const FOUR: &[u8] = &[0, 0, 0, 0, 0, 0, 0, 4];
 
 const DRAIN: Record = (b'D', 0, &[]);
 
-const BEGUN: &[Record] = &[(b'C', 0, &[ROSTER])];
+const ONLY_ROSTER: &[Record] = &[(b'C', 0, &[ROSTER])];
 
 // A, B and C connect.
 const CONNECTED: &[Record] = &[
@@ -197,7 +197,7 @@ fn written<R: Threads + Sync>(rt: &R, alloc: Global, lists: &[&[Record]]) -> Res
 }
 
 const CASES: &[Case] = &[
-    ("a roster alone has no output", &[BEGUN], &[]),
+    ("a roster alone has no output", &[ONLY_ROSTER], &[]),
     (
         "the lower identifier decides between equal costs",
         &[DECIDED],

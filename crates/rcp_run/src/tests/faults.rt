@@ -1,6 +1,6 @@
 //! Feeds and rosters with a fault, each answered at its place.
 
-use super::{BEGUN, DECIDED, Record, SENT, add, octets_of, replayed};
+use super::{DECIDED, ONLY_ROSTER, Record, SENT, add, octets_of, replayed};
 use crate::{FeedWhy, RosterWhy, Status};
 use std::alloc::{AllocError, Global};
 use std::test::Fail;
@@ -9,9 +9,9 @@ use std::thread::Threads;
 // A connects.
 const BY_A: &[Record] = &[(b'E', 1, &[&[10, 0, 0, 1]])];
 
-const BEGUN_BY_A: &[&[Record]] = &[BEGUN, BY_A];
+const ROSTER_AND_A: &[&[Record]] = &[ONLY_ROSTER, BY_A];
 
-// Octets behind the roster and A's connection, the number of the faulty record, and why it is one.
+// Octets after the roster and A's connection, the number of the faulty record, and why it is one.
 const FAULTS: &[(&[u8], u64, FeedWhy)] = &[
     (b"", 3, FeedWhy::Truncated),
     (b"B\0\0\0", 3, FeedWhy::Truncated),
@@ -41,7 +41,7 @@ const FAULTS: &[(&[u8], u64, FeedWhy)] = &[
     (b"X\0\0\0\x07\0\0\0\0?\0\0\0\0\0\0\0\0", 4, FeedWhy::Kind),
 ];
 
-// The status of a feed of these records and these octets behind them, and what was written.
+// The status of a feed of these records and these octets after them, and what was written.
 fn cut_off<R: Threads + Sync>(
     rt: &R,
     alloc: Global,
@@ -56,7 +56,7 @@ fn cut_off<R: Threads + Sync>(
 #[test]
 fn first_faulty_record_ends_the_run(rt: HostRuntime) -> Result<(), Fail> {
     for (tail, number, why) in FAULTS {
-        let (status, written) = cut_off(&rt, rt.alloc(), BEGUN_BY_A, tail)?;
+        let (status, written) = cut_off(&rt, rt.alloc(), ROSTER_AND_A, tail)?;
         let number = *number;
         let why = *why;
         assert_eq!(rt; status, Status::Feed { number, why }, "at {tail:?}");
@@ -65,7 +65,7 @@ fn first_faulty_record_ends_the_run(rt: HostRuntime) -> Result<(), Fail> {
     Ok(())
 }
 
-// What is fed, octets behind it, the number of the faulty record, why it is one, and what is written of those before.
+// What is fed, octets after it, the number of the faulty record, why it is one, and what is written of those before.
 const ENDS: &[(&[&[Record]], &[u8], u64, FeedWhy, &[&[Record]])] = &[
     (&[BY_A], b"", 1, FeedWhy::NoRoster, &[]),
     (&[], b"", 1, FeedWhy::Truncated, &[]),

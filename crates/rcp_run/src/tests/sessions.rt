@@ -3,8 +3,8 @@
 ghost use Rattle.std.specs.Prelude.{◌<◌};
 
 use super::{
-    BEGUN, CONNECTED, Case, DECIDED, DRAIN, FROM_A, FROM_C, MARKER, ONE, Record, SENT, TWO, ZERO,
-    add, done, joined, octets_of, written,
+    CONNECTED, Case, DECIDED, DRAIN, FROM_A, FROM_C, MARKER, ONE, ONLY_ROSTER, Record, SENT, TWO,
+    ZERO, add, done, joined, octets_of, written,
 };
 use std::alloc::Global;
 use std::test::Fail;
@@ -89,7 +89,7 @@ const HEADERS: &[Case] = &[
     (
         "a header of 18 octets is answered with its length",
         &[
-            BEGUN,
+            ONLY_ROSTER,
             &[RAW, (b'B', 1, &[MARKER, &[0, 18]]), (b'B', 1, &[&[4]])],
         ],
         &[&[
@@ -101,7 +101,7 @@ const HEADERS: &[Case] = &[
     (
         "a header of 4,097 octets is answered with its length",
         &[
-            BEGUN,
+            ONLY_ROSTER,
             &[RAW, (b'B', 1, &[MARKER, &[16, 1]]), (b'B', 1, &[&[2]])],
         ],
         &[&[
@@ -113,7 +113,7 @@ const HEADERS: &[Case] = &[
     (
         "a KEEPALIVE of 20 octets is answered with its length",
         &[
-            BEGUN,
+            ONLY_ROSTER,
             &[RAW, (b'B', 1, &[MARKER, &[0, 20]]), (b'B', 1, &[&[4]])],
         ],
         &[&[
@@ -138,7 +138,7 @@ const OPENS: &[Case] = &[
     (
         "an OPEN with a hold time of 2 seconds is refused",
         &[
-            BEGUN,
+            ONLY_ROSTER,
             &[
                 RAW,
                 (
@@ -158,7 +158,7 @@ const OPENS: &[Case] = &[
     (
         "an OPEN of a router that is no member is refused",
         &[
-            BEGUN,
+            ONLY_ROSTER,
             &[
                 RAW,
                 (
@@ -178,7 +178,7 @@ const OPENS: &[Case] = &[
     (
         "an OPEN of another AS is refused",
         &[
-            BEGUN,
+            ONLY_ROSTER,
             &[
                 RAW,
                 (
@@ -211,7 +211,7 @@ const FIRST: &[Case] = &[
     (
         "an OPEN of version 3 is refused",
         &[
-            BEGUN,
+            ONLY_ROSTER,
             &[
                 RAW,
                 (
@@ -230,7 +230,7 @@ const FIRST: &[Case] = &[
     ),
     (
         "an UPDATE before an OPEN is refused",
-        &[BEGUN, &[RAW, (b'B', 1, FROM_A), DRAIN]],
+        &[ONLY_ROSTER, &[RAW, (b'B', 1, FROM_A), DRAIN]],
         &[&[
             (b'B', 1, OPEN),
             (b'B', 1, &[MARKER, &[0, 21, 3, 5, 0]]),
@@ -254,7 +254,7 @@ const LATER: &[Case] = &[
     (
         "a silent session expires",
         &[
-            BEGUN,
+            ONLY_ROSTER,
             OPENED,
             &[
                 (b'T', 0, &[&[0, 0, 0, 0, 0, 0, 0, 9]]),
@@ -284,7 +284,7 @@ const LATER: &[Case] = &[
     (
         "a second connection of a router is closed",
         &[
-            BEGUN,
+            ONLY_ROSTER,
             OPENED,
             &[
                 (b'E', 2, &[&[10, 0, 0, 1]]),
