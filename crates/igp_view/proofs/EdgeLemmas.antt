@@ -8,7 +8,6 @@ use Rattle.rcp_model.specs.LinkStateUpdates.{ReadLsa, faultless_lsas, installed_
 use Rattle.rcp_model.proofs.GraphLemmas.{same-edge}
 use Rattle.lsdb.specs.Databases.{Database, Holds}
 use Rattle.lsdb.proofs.Sorting.{equal_edge}
-use Rattle.igp_view.specs.Streams.{Stream, lsas_by, state_after}
 use Rattle.igp_view.specs.Reading.{Installs}
 use Rattle.igp_view.specs.Igp.{AreEdgesOf}
 
@@ -46,9 +45,3 @@ edges_fresh old middle new links edges read now itself are stays after installs 
     edges_stay old.state new.state links edges
     (subst (λ (lsas : List RouterLsa). Holds new.state (installed_all middle.moment lsas old.state)) (none_of_length (faultless_lsas read) none)
     (installs.state old.state (subst (Holds middle.state) stays (after old.state itself)))) are
-
--- the link state after a piece, by the time and the packets
-pub state_by : (area now : ℕ) (stream : Stream) (piece : List ℕ) (old middle new : Database) → middle.moment ≡ now → ((state : LinkState) → Holds old.state state → Holds middle.state (aged now state))
-    → Installs (lsas_by area stream piece) middle new → (state : LinkState) → Holds old.state state → Holds new.state (state_after area now stream piece state)
-state_by area now stream piece old middle new at after installs state holds =
-    subst (λ n. Holds new.state (installed_all n (faultless_lsas (lsas_by area stream piece)) (aged now state))) at (installs.state (aged now state) (after state holds))

@@ -105,7 +105,7 @@ impl IgpView {
             return Err(NoMemory);
         }
         self.is_spent = true;
-        let went = self.lsdb.clock(now.max(self.lsdb.time()));
+        let went = tick(&mut self.lsdb, now);
         let got = take_piece(
             self.alloc,
             &mut self.is_lost,
@@ -144,7 +144,7 @@ impl IgpView {
             return Err(NoMemory);
         }
         self.is_spent = true;
-        let went = self.lsdb.clock(now.max(self.lsdb.time()));
+        let went = tick(&mut self.lsdb, now);
         renew(
             self.alloc,
             went,
@@ -194,4 +194,15 @@ fn may_change(went: bool, got: &IgpGot) -> bool
     ensures { result ≡ false → (went ≡ false) × (got.now.installed ≡ 0) }
 {
     went || got.installed > 0
+}
+
+/// Lets a database's time pass, and says whether an instance went. A time below the latest counts as the latest.
+fn tick(lsdb: &mut Lsdb, now: u64) -> bool
+    ensures state { (state : LinkState) → Holds lsdb.old.state state → Holds lsdb.new.state (aged (max now lsdb.old.moment) state) }
+    ensures time { lsdb.new.moment ≡ max now lsdb.old.moment }
+    ensures stays { result ≡ false → aged (max now lsdb.old.moment) lsdb.old.state ≡ lsdb.old.state }
+    ensures kept { Holds lsdb.old.state lsdb.old.state }
+{
+    let latest = now.max(lsdb.time());
+    lsdb.clock(latest)
 }

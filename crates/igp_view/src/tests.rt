@@ -1,12 +1,12 @@
 //! Streams of link state, cut and timed in many ways, and the views over them.
 
-ghost use Rattle.std.specs.Prelude.{◌≡◌, ◌≤◌, length};
+ghost use Rattle.std.specs.Prelude.{◌<◌};
 
 use crate::{IgpGot, IgpView};
 use cost_rows::View;
 use lsa_reader::{Lsa, LsaLink, POINT_TO_POINT, write};
 use rcp_base::{NoMemory, RouterId, Slot};
-use rcp_model::{Costs, Edge};
+use rcp_model::Costs;
 use roster::{Roster, read};
 use std::alloc::Global;
 use std::sync::Arc;
@@ -41,9 +41,8 @@ fn roster_of(alloc: Global, text: &[u8]) -> Result<Roster, Fail> {
 }
 
 /// The LSA of a router with point-to-point links.
-fn lsa(alloc: Global, router: u32, age: u16, sequence: i32, links: &[Link]) -> Result<Lsa, NoMemory>
-    ensures { IfOk result (λ lsa. (lsa.header.age ≡ age) × (length lsa.content ≡ length links.now)) }
-{
+fn lsa(alloc: Global, says: (u32, u16, i32, &[Link])) -> Result<Lsa, NoMemory> {
+    let (router, age, sequence, links) = says;
     let links = links
         .iter()
         .map(|link| LsaLink {
@@ -61,26 +60,24 @@ fn lsa(alloc: Global, router: u32, age: u16, sequence: i32, links: &[Link]) -> R
     })
 }
 
-/// Puts a packet of an area behind a stream: an update with the LSA of a router.
+/// Adds a packet of an area to a stream: an update with the LSA of a router.
 fn add_update(
     alloc: Global,
     stream: &mut Vec<u8>,
     area: u8,
     says: (u32, u16, i32, &[Link]),
 ) -> Result<(), Fail> {
-    let (router, age, sequence, links) = says;
-    if age > 3600 || links.len() > 100 {
-        return Err("too much for a test".into());
+    let lsa = lsa(alloc, says)?;
+    if lsa.age > 3600 || lsa.links.len() > 5459 {
+        return Err("too much for an LSA".into());
     }
-    let lsa = lsa(alloc, router, age, sequence, links)?;
-    let mut octets = [0; 1300];
+    let mut octets = [0; 200];
     let len = write(&lsa, &mut octets).ok_or("room")?;
-    let all = 28 + len;
-    stream.extend_from_slice(&[2, 4, (all / 256) as u8, (all % 256) as u8])?;
+    let (front, _) = octets.split_at(len);
+    stream.extend_from_slice(&[2, 4, 0, (28 + len % 200) as u8])?;
     stream.extend_from_slice(&[0, 0, 0, 0, 0, 0, 0, area])?;
     stream.extend_from_slice(&[0; 15])?;
     stream.push(1)?;
-    let (front, _) = octets.split_at(len);
     stream.extend_from_slice(front)?;
     Ok(())
 }
@@ -116,12 +113,281 @@ fn any_cut_leaves_one_view(rt: HostRuntime) -> Result<(), Fail> {
         let mut igp = IgpView::new(alloc, &roster)?;
         let first = igp.octets(front, 0)?;
         let second = igp.octets(back, 0)?;
-        assert_eq!(rt; first.installed + second.installed, 3);
+        assert_eq!(rt; first.installed.saturating_add(second.installed), 3);
         assert_eq!(rt; (first.left_out, second.left_out), (0, 0));
         assert_eq!(rt;
             costs_from_first(&igp.view()?),
             [Some(0), Some(10), Some(20)]
         );
+    }
+    Ok(())
+}
+
+/// The view after these LSAs, which come as one piece at time 0.
+fn viewed(alloc: Global, text: &[u8], says: &[Says]) -> Result<Arc<View>, Fail> {
+    let roster = roster_of(alloc, text)?;
+    let stream = stream_of(alloc, says)?;
+    let mut igp = IgpView::new(alloc, &roster)?;
+    let _got = igp.octets(&stream, 0)?;
+    Ok(igp.view()?)
+}
+
+#[test]
+fn a_router_that_lists_no_link_is_alone(rt: HostRuntime) -> Result<(), Fail> {
+    let says: [Says; 3] = [
+        (A, 1, 1, &[(B, 10)]),
+        (B, 1, 1, &[(A, 10), (C, 10)]),
+        (C, 1, 1, &[]),
+    ];
+    let view = viewed(rt.alloc(), BARE, &says)?;
+    assert_eq!(rt; costs_from_first(&view), [Some(0), Some(10), None]);
+    let linked = viewed(rt.alloc(), LINKED, &says)?;
+    assert_eq!(rt; costs_from_first(&linked), [Some(0), Some(10), Some(7)]);
+    Ok(())
+}
+
+/// A packet of 24 octets, and a header of version 3.
+const HELLO: [u8; 24] = [
+    2, 1, 0, 24, 0, 0, 0, 0, 0, 0, 0, 0, 0, 0, 0, 0, 0, 0, 0, 0, 0, 0, 0, 0,
+];
+
+const OTHER_VERSION: [u8; 24] = [
+    3, 1, 0, 24, 0, 0, 0, 0, 0, 0, 0, 0, 0, 0, 0, 0, 0, 0, 0, 0, 0, 0, 0, 0,
+];
+
+const NOTHING: IgpGot = IgpGot {
+    installed: 0,
+    left_out: 0,
+    lost: None,
+};
+
+#[test]
+fn the_place_of_lost_framing_is_answered_once(rt: HostRuntime) -> Result<(), Fail> {
+    let alloc = rt.alloc();
+    let mut igp = IgpView::new(alloc, &roster_of(alloc, BARE)?)?;
+    let update = stream_of(alloc, &[(A, 1, 1, &[(B, 10)])])?;
+    assert_eq!(rt; igp.octets(&HELLO, 0)?, NOTHING);
+    assert_eq!(rt; igp.octets(&HELLO, 0)?, NOTHING);
+    let lost = igp.octets(&OTHER_VERSION, 0)?;
+    assert_eq!(rt;
+        lost,
+        IgpGot {
+            lost: Some(48),
+            ..NOTHING
+        }
+    );
+    assert_eq!(rt; igp.octets(&update, 0)?, NOTHING);
+    igp.restart();
+    let got = igp.octets(&update, 0)?;
+    assert_eq!(rt;
+        got,
+        IgpGot {
+            installed: 1,
+            ..NOTHING
+        }
+    );
+    Ok(())
+}
+
+#[test]
+fn a_restart_drops_the_front_of_a_packet(rt: HostRuntime) -> Result<(), Fail> {
+    let alloc = rt.alloc();
+    let mut igp = IgpView::new(alloc, &roster_of(alloc, BARE)?)?;
+    let update = stream_of(alloc, &[(A, 1, 1, &[(B, 10)])])?;
+    let (front, _) = update.split_at(update.len() / 2);
+    assert_eq!(rt; igp.octets(front, 0)?, NOTHING);
+    igp.restart();
+    let got = igp.octets(&update, 0)?;
+    assert_eq!(rt;
+        got,
+        IgpGot {
+            installed: 1,
+            ..NOTHING
+        }
+    );
+    Ok(())
+}
+
+#[test]
+fn instances_age_out(rt: HostRuntime) -> Result<(), Fail> {
+    let alloc = rt.alloc();
+    let roster = roster_of(alloc, BARE)?;
+    let says: [Says; 2] = [(A, 3590, 1, &[(B, 10)]), (B, 1, 1, &[(A, 10)])];
+    let stream = stream_of(alloc, &says)?;
+    let mut igp = IgpView::new(alloc, &roster)?;
+    let _got = igp.octets(&stream, 0)?;
+    assert_eq!(rt; igp.changes(), 1);
+    igp.clock(9)?;
+    assert_eq!(rt; igp.changes(), 1);
+    igp.clock(10)?;
+    assert_eq!(rt; igp.changes(), 2);
+    assert_eq!(rt; costs_from_first(&igp.view()?), [Some(0), None, None]);
+    // a piece at an earlier time comes at the latest: the instance is young again, and ages from then on
+    let _got = igp.octets(&stream, 3)?;
+    assert_eq!(rt; igp.changes(), 3);
+    let _none = igp.octets(&[], 19)?;
+    assert_eq!(rt; igp.changes(), 3);
+    let _none = igp.octets(&[], 20)?;
+    assert_eq!(rt; igp.changes(), 4);
+    Ok(())
+}
+
+#[test]
+fn what_is_faulty_is_left_out_and_another_area_is_skipped(rt: HostRuntime) -> Result<(), Fail> {
+    let alloc = rt.alloc();
+    let mut igp = IgpView::new(alloc, &roster_of(alloc, BARE)?)?;
+    let mut stream = Vec::new(alloc);
+    add_update(alloc, &mut stream, 1, (A, 1, 1, &[(B, 10)]))?;
+    assert_eq!(rt; igp.octets(&stream, 0)?, NOTHING);
+    let mut faulty = stream_of(alloc, &[(A, 1, 1, &[(B, 10)])])?;
+    let _ = faulty.pop();
+    faulty.push(11)?;
+    let got = igp.octets(&faulty, 0)?;
+    assert_eq!(rt;
+        got,
+        IgpGot {
+            left_out: 1,
+            ..NOTHING
+        }
+    );
+    // an update that counts two LSAs and has one
+    let mut short = stream_of(alloc, &[(A, 1, 1, &[(B, 10)])])?;
+    if short.len() > 27 {
+        short[27] = 2;
+    }
+    let got = igp.octets(&short, 0)?;
+    assert_eq!(rt;
+        got,
+        IgpGot {
+            installed: 1,
+            left_out: 1,
+            ..NOTHING
+        }
+    );
+    Ok(())
+}
+
+#[test]
+fn the_2049th_router_has_no_instance(rt: HostRuntime) -> Result<(), Fail> {
+    let alloc = rt.alloc();
+    let mut stream = Vec::new(alloc);
+    add_update(alloc, &mut stream, 0, (A, 1, 1, &[(B, 10), (C, 10)]))?;
+    add_update(alloc, &mut stream, 0, (B, 1, 1, &[(A, 10)]))?;
+    for other in 0..2046 {
+        add_update(alloc, &mut stream, 0, (0x0b00_0000 + other, 1, 1, &[]))?;
+    }
+    add_update(alloc, &mut stream, 0, (C, 1, 1, &[(A, 10)]))?;
+    let mut igp = IgpView::new(alloc, &roster_of(alloc, BARE)?)?;
+    let got = igp.octets(&stream, 0)?;
+    assert_eq!(rt;
+        got,
+        IgpGot {
+            installed: 2049,
+            ..NOTHING
+        }
+    );
+    assert_eq!(rt; costs_from_first(&igp.view()?), [Some(0), Some(10), None]);
+    Ok(())
+}
+
+/// What is drawn next: a linear congruence modulo 2^31.
+fn drawn(seed: &mut u32, most: u32) -> u32
+    requires { 0 < most }
+    ensures { result < most }
+{
+    *seed = seed.wrapping_mul(1_103_515_245).wrapping_add(12_345) % 0x8000_0000;
+    *seed / 65_536 % most
+}
+
+/// Metrics between three routers, none where one doesn't list the other.
+type Metrics = [[Option<u16>; 3]; 3];
+
+/// Random metrics between three routers.
+fn random_metrics(seed: &mut u32) -> Metrics {
+    let mut metrics = [[None; 3]; 3];
+    for row in &mut metrics {
+        for metric in row {
+            if drawn(seed, 3) > 0 {
+                *metric = Some(drawn(seed, 20) as u16);
+            }
+        }
+    }
+    metrics
+}
+
+/// The cost of the edge from one router to another where each lists the other.
+fn two_way(metrics: &Metrics, from: usize, to: usize) -> Option<u32>
+    requires from { from < 3 }
+    requires to { to < 3 }
+{
+    let there = metrics[from][to]?;
+    let _back = metrics[to][from]?;
+    Some(u32::from(there))
+}
+
+/// The lower of a cost and of the sum of two.
+fn lower(cost: Option<u32>, first: Option<u32>, second: Option<u32>) -> Option<u32> {
+    let (Some(first), Some(second)) = (first, second) else {
+        return cost;
+    };
+    let sum = first.saturating_add(second);
+    match cost {
+        Some(cost) if cost <= sum => Some(cost),
+        _ => Some(sum),
+    }
+}
+
+/// The costs by the plain definition: over no router between, then over one more at a time.
+fn plain_costs(metrics: &Metrics) -> [[Option<u32>; 3]; 3] {
+    let mut costs = [[None; 3]; 3];
+    for from in 0..3 {
+        for to in 0..3 {
+            costs[from][to] = if from == to {
+                Some(0)
+            } else {
+                two_way(metrics, from, to)
+            };
+        }
+    }
+    for over in 0..3 {
+        for from in 0..3 {
+            for to in 0..3 {
+                costs[from][to] = lower(costs[from][to], costs[from][over], costs[over][to]);
+            }
+        }
+    }
+    costs
+}
+
+/// A piece with the LSAs of three routers that list these metrics.
+fn piece_of(alloc: Global, sequence: i32, metrics: &Metrics) -> Result<Vec<u8>, Fail> {
+    let mut stream = Vec::new(alloc);
+    let mut from = A;
+    for row in metrics {
+        let mut links = Vec::new(alloc);
+        for (to, metric) in [A, B, C].iter().zip(row) {
+            if let Some(metric) = metric {
+                links.push((*to, *metric))?;
+            }
+        }
+        add_update(alloc, &mut stream, 0, (from, 1, sequence, &links))?;
+        from = from.wrapping_add(1);
+    }
+    Ok(stream)
+}
+
+#[test]
+fn views_have_the_costs_of_the_plain_definition(rt: HostRuntime) -> Result<(), Fail> {
+    let alloc = rt.alloc();
+    let mut seed = 2026;
+    let mut igp = IgpView::new(alloc, &roster_of(alloc, BARE)?)?;
+    for round in 0..60 {
+        let metrics = random_metrics(&mut seed);
+        let piece = piece_of(alloc, round, &metrics)?;
+        let _got = igp.octets(&piece, 0)?;
+        let view = igp.view()?;
+        let costs = [0, 1, 2].map(|from| [0, 1, 2].map(|to| view.cost(Slot(from), Slot(to))));
+        assert_eq!(rt; costs, plain_costs(&metrics), "in round {round}");
     }
     Ok(())
 }

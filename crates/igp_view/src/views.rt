@@ -1,4 +1,4 @@
-//! Views of the edges that a database tells of.
+//! Views of the edges that a database gives.
 
 ghost use Rattle.std.specs.Prelude.{◌≡◌, false, IfOk, OnOk};
 ghost use Rattle.rcp_model.specs.Graphs.{AreMembers};
