@@ -1,6 +1,6 @@
 //! The table of cells.
 
-ghost use Rattle.std.specs.Prelude.{◌≡◌, ◌<◌, ◌≤◌, true, not, Some, None, OnOk, OnErr, IfSome, length, ◌&&◌, is_some};
+ghost use Rattle.std.specs.Prelude.{◌≡◌, ◌<◌, ◌≤◌, true, false, not, Some, None, OnOk, OnErr, IfSome, length, ◌&&◌, is_some};
 ghost use Rattle.std.specs.Option.{option_map};
 ghost use Rattle.out_table.specs.Cells.{is_same};
 ghost use Rattle.out_table.specs.Tables.{Table, new_table, cell, is_opened, is_dirty, opened, after_set, cleaned, cleared, IsLeast, is_after};
@@ -78,11 +78,12 @@ impl OutTable {
 
     /// Opens a prefix: its cells have no route and are clean. Nothing changes where it is opened already.
     ///
-    /// `NoMemory` where there is no room, or 2^32 - 1 prefixes are opened; the table is as before then. It takes about
+    /// `NoMemory` where the prefix isn't opened and there is no room for it, or 2^32 - 1 prefixes are opened; the table is as before then. It takes about
     /// the logarithm of the number of opened prefixes, and now and then makes room for a quarter more of them.
     pub fn open(&mut self, p: Prefix) -> Result<(), NoMemory>
         ensures ok { OnOk result (self.new ≡ opened p self.old) }
         ensures err { OnErr result (self.new ≡ self.old) }
+        ensures new { OnErr result (is_opened self.old p ≡ false) }
     {
         if self.places.contains_key(&p) {
             return Ok(());

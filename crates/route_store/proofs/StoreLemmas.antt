@@ -56,20 +56,23 @@ module _ (rows : Rows) (seats : Seats) (store : IsStore rows seats) (slot : ℕ)
 pub is_key : (q key : RibKey) → eq_by_cmp rib_cmp q key ≡ true → q ≡ key
 is_key q key e = rib_exact q key ((Equal-is (rib_cmp q key)).0 e)
 
-module _ (old mid : Seats) (key : RibKey) (there : SeatsThen old mid key true) where
-  -- what was there stays
-  pub seats_kept : has_seat old key ≡ true → SameSeats old mid
-  seats_kept was q = there q ∙ at_test (eq_by_cmp rib_cmp q key) refl where
-    at_test : (b : Bool) → eq_by_cmp rib_cmp q key ≡ b → cond b true (has_seat old q) ≡ has_seat old q
-    at_test true is = sym (ap (has_seat old) (is_key q key is) ∙ was)
-    at_test false is = refl
+-- a prefix that is there stays
+pub seat_there : (seats : Seats) (key : RibKey) → has_seat seats key ≡ true → SeatsThen seats seats key true
+seat_there seats key there q = at_test (eq_by_cmp rib_cmp q key) refl where
+  at_test : (b : Bool) → eq_by_cmp rib_cmp q key ≡ b → has_seat seats q ≡ cond b true (has_seat seats q)
+  at_test true is = ap (has_seat seats) (is_key q key is) ∙ there
+  at_test false is = refl
 
-  -- what was added is taken out again
-  pub seats_undone : (new : Seats) → SeatsThen mid new key false → has_seat old key ≡ false → SameSeats old new
-  seats_undone new gone was q = gone q ∙ ap (cond (eq_by_cmp rib_cmp q key) false) (there q) ∙ at_test (eq_by_cmp rib_cmp q key) refl where
-    at_test : (b : Bool) → eq_by_cmp rib_cmp q key ≡ b → cond b false (cond b true (has_seat old q)) ≡ has_seat old q
-    at_test true is = sym (ap (has_seat old) (is_key q key is) ∙ was)
-    at_test false is = refl
+pub none_is : (o : Option ℕ) → false ≡ is_some o → o ≡ None
+none_is None is = refl
+none_is (Some n) is = absurd cc
+
+-- what was put where there was nothing is taken out again
+pub numbers_undone : (old mid new : Rows) (key : RibKey) (value : Option ℕ) → Puts old mid key value → Puts mid new key None → number_at old key ≡ None → SameNumbers old new
+numbers_undone old mid new key value put taken none q = taken q ∙ ap (cond (eq_by_cmp rib_cmp q key) None) (put q) ∙ at_test (eq_by_cmp rib_cmp q key) refl where
+  at_test : (b : Bool) → eq_by_cmp rib_cmp q key ≡ b → cond b None (cond b value (number_at old q)) ≡ number_at old q
+  at_test true is = sym (ap (number_at old) (is_key q key is) ∙ none)
+  at_test false is = refl
 
 -- ---- the store stays joined
 

@@ -60,20 +60,39 @@ impl RouteStore {
 
     /// Gives a slot a route at a prefix, in the place of the one before, and answers whether the map changed.
     ///
-    /// `NoMemory` comes where there was no room, and leaves the map as it was. It costs a look-up among the prefixes and one among the slot's.
+    /// `NoMemory` comes where there was no room, and leaves the map as it was. It costs a look-up among the prefixes, and one among the slot's
+    /// where the slot had no route there.
     pub fn set(&mut self, slot: Slot, p: Prefix, route: RouteNo) -> Result<bool, NoMemory>
         ensures set { OnOk result (self.new ≡ map_of.insert self.old (p, slot) route) }
         ensures changed { IfOk result (λ changed. IsTrue changed ↔ (map_of.get self.old (p, slot) ≢ Some route)) }
         ensures err { OnErr result (self.new ≡ self.old) }
     {
-        let added = add_seat(&mut self.seats, self.alloc, slot, p)?;
-        let Ok(old) = put(&mut self.rows, self.alloc, p, slot, route) else {
-            if added {
-                remove_seat(&mut self.seats, slot, p);
-            }
+        let old = self.replace(slot, p, route)?;
+        Ok(old != Some(route))
+    }
+
+    /// What `set` does. It gives back the number of the route before, None where there was none.
+    pub fn replace(
+        &mut self,
+        slot: Slot,
+        p: Prefix,
+        route: RouteNo,
+    ) -> Result<Option<RouteNo>, NoMemory>
+        ensures set { OnOk result (self.new ≡ map_of.insert self.old (p, slot) route) }
+        ensures before { IfOk result (λ before. before ≡ map_of.get self.old (p, slot)) }
+        ensures err { OnErr result (self.new ≡ self.old) }
+    {
+        let Ok(before) = put(&mut self.rows, self.alloc, p, slot, route) else {
             return Err(NoMemory);
         };
-        Ok(old != Some(route))
+        if before.is_some() {
+            return Ok(before);
+        }
+        let Ok(_added) = add_seat(&mut self.seats, self.alloc, slot, p) else {
+            take(&mut self.rows, p, slot);
+            return Err(NoMemory);
+        };
+        Ok(None)
     }
 
     /// Takes the route of a slot at a prefix out, and gives its number back, None where there is none. It takes no memory.

@@ -1,6 +1,7 @@
-use Rattle.std.proofs.Common.{◌≡◌, ℕ, ◌<◌, length, sym, subst, ◌∙◌, arith, rules}
-use Rattle.out_table.specs.Tables.{Table, opened}
+use Rattle.std.proofs.Common.{◌≡◌, ℕ, ◌<◌, false, length, sym, ap, subst, ◌∙◌, arith, rules}
+use Rattle.out_table.specs.Tables.{Table, opened, is_opened}
 use Rattle.out_table.specs.Places.{place_of}
+use Rattle.out_table.proofs.EntryLemmas.{opened_is}
 use Rattle.out_table.proofs.OpenLemmas.{none_from, on_err, kept_grown, kept_room, table_grown, table_again, kept_either, table_ok, table_err}
 use Rattle.out_table.proofs.table.OutTable.open.Goals as goal
 
@@ -47,3 +48,20 @@ returns-clause-err c =
     table_err c.add_place.result c.args.self.now t.members t.places.entries c.add_place.new.places.entries t.prefixes.items c.add_place.new.prefixes.items c.make_room.new.columns.items
     (table_grown t.members t.places.entries t.prefixes.items t.columns.items c.make_room.new.columns.items c.self.invariant.inverse.sorted c.in_ok-self-inside.ensures.kept ∙ c.self.view_is)
     c.add_place.ensures.places_err c.add_place.ensures.prefixes_err
+
+pub returns-then-place-clause-new : goal.returns-then-place-clause-new
+returns-then-place-clause-new c =
+    let t = c.self.inside in
+    sym (ap (λ (u : Table). is_opened u c.args.p) c.self.view_is) ∙ opened_is t.members t.places.entries t.prefixes.items t.columns.items c.args.p ∙ sym c.if-contains_key.ensures
+
+pub returns-in_err-self-inside-clause-new : goal.returns-in_err-self-inside-clause-new
+returns-in_err-self-inside-clause-new c =
+    let t = c.self.inside in
+    on_err c.from_residual.result _
+    (sym (ap (λ (u : Table). is_opened u c.args.p) c.self.view_is) ∙ opened_is t.members t.places.entries t.prefixes.items t.columns.items c.args.p ∙ sym c.if-contains_key.ensures)
+
+pub returns-clause-new : goal.returns-clause-new
+returns-clause-new c =
+    let t = c.self.inside in
+    on_err c.add_place.result _
+    (sym (ap (λ (u : Table). is_opened u c.args.p) c.self.view_is) ∙ opened_is t.members t.places.entries t.prefixes.items t.columns.items c.args.p ∙ sym c.if-contains_key.ensures)

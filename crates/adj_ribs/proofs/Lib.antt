@@ -1,0 +1,7 @@
+pub mod UseLemmas
+pub mod RouteLemmas
+pub mod JoinLemmas
+pub mod AnnounceLemmas
+pub mod ChangeLemmas
+pub mod LookLemmas
+pub mod DropLemmas
