@@ -10,7 +10,6 @@ use std::alloc::Global;
 use std::sync::Arc;
 use std::test::Fail;
 
-// RANDOM
 
 /// Four routers A, B, C and F.
 const ROSTER: &[u8] =
