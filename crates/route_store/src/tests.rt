@@ -28,6 +28,8 @@ fn the_same_route_again_is_no_change(rt: HostRuntime) -> Result<(), Fail> {
     assert!(rt; store.set(Slot(1), p, RouteNo(7))?);
     assert!(rt; !store.set(Slot(1), p, RouteNo(7))?);
     assert!(rt; store.set(Slot(1), p, RouteNo(8))?);
+    assert_eq!(rt; store.replace(Slot(1), p, RouteNo(9))?, Some(RouteNo(8)));
+    assert_eq!(rt; store.replace(Slot(2), p, RouteNo(9))?, None);
     Ok(())
 }
 
