@@ -103,7 +103,7 @@ module _ (slot : ℕ) where
     at_test rest true = rest
     at_test rest false = AllPairs-cons (λ a b. IsTrue (is_pair_before a b)) (slot, name) (changed_pairs slot names old new) (All-from_members (λ pair. IsTrue (is_pair_before (slot, name) pair)) (changed_pairs slot names old new) first) rest
 
--- ---- behind the pairs of earlier slots
+-- ---- after the pairs of earlier slots
 
 all_pairs_append : {X : Type 0} (R : X → X → Type 0) (xs ys : List X) → AllPairs R xs → AllPairs R ys → ((x y : X) → Contains xs x → Contains ys y → R x y) → AllPairs R (xs ++ ys)
 all_pairs_append R [] ys first later cross = later

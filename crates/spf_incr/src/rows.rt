@@ -177,7 +177,7 @@ fn changed(
     Ok(pairs.collect(alloc)?)
 }
 
-/// Brings the row of a slot's router over the graph after a change, and puts the pairs behind others whose cost changed.
+/// Brings the row of a slot's router over the graph after a change, and puts the pairs after others whose cost changed.
 pub fn follow(
     alloc: Global,
     graph: &Graph,
