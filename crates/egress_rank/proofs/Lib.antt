@@ -1,3 +1,3 @@
-mod EgressLemmas
+pub mod EgressLemmas
 mod MarkLemmas
 mod StandingLemmas
