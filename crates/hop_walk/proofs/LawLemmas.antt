@@ -3,6 +3,7 @@ use Rattle.std.proofs.Common.{◌≡◌, ◌≢◌, ℕ, zero, suc, ◌+◌, ◌
 use Rattle.std.specs.List.{list_any}
 use Rattle.std.specs.Cmp.{IsEquivalence}
 use Rattle.std.proofs.lemmas.Bool.{false≢true, cases_Bool, ltb-true, ltb-false, eqb-false}
+use Rattle.std.proofs.lemmas.Option.{same_Some, none-some}
 use Rattle.std.proofs.lemmas.Bool.Decides.{nat_tests}
 use Rattle.rcp_base.specs.IpPrefix.{IpPrefix}
 use Rattle.rcp_base.specs.declared.names.Edge.{Edge}
@@ -15,8 +16,9 @@ use Rattle.rcp_model.proofs.WalkLemmas.{cost-itself, cost_over}
 use Rattle.rcp_model.proofs.MemberLemmas.{any_member, none_at_member}
 use Rattle.rcp_model.proofs.FilterLemmas.{member_of_tied, choice_own, choice_other}
 use Rattle.rcp_model.proofs.CandidateLemmas.{candidate_is, choice_of_none, choice_of_nearest}
+use Rattle.cost_rows.proofs.BoundLemmas.{walk_of}
 use Rattle.hop_walk.specs.Hops.{IsOnTheWay, ArePositive}
-use Rattle.hop_walk.proofs.WayLemmas.{some_is, some_none, walk_of_cost, cost_of_some, Parts, reach-same, positive_walk}
+use Rattle.hop_walk.proofs.WayLemmas.{cost_of_some, Parts, reach-same, positive_walk}
 
 -- ---- candidates depend only on which routers are reached
 
@@ -44,8 +46,8 @@ own_cases slot list = at_test (list_any (is_of slot) (tied list)) refl where
 -- ---- slots
 
 seat_is : (members : List Member) (slot router : ℕ) (d : Member) → router_at members slot ≡ Some router → (slot < length members) × ((get_or members slot d).router ≡ router)
-seat_is [] slot router d is = absurd (some_none (sym is))
-seat_is (member ∷ members) zero router d is = (omega arith, some_is is)
+seat_is [] slot router d is = absurd (none-some _ is)
+seat_is (member ∷ members) zero router d is = (omega arith, same_Some _ _ is)
 seat_is (member ∷ members) (suc slot) router d is = let rest = seat_is members slot router d is in (omega (arith, rest.0), rest.1)
 
 pub one_slot : (members : List Member) → AllPairs (λ a b. a.router ≢ b.router) members → (s t router : ℕ) → router_at members s ≡ Some router → router_at members t ≡ Some router → s ≡ t
@@ -138,7 +140,7 @@ module _ (domain : Domain) (announced : Announced) (edges : List Edge) (both : I
     by_equal : (eqb w v ≡ true) ⊎ (eqb w v ≡ false) → t ≡ a.slot
     by_equal (inl same) = one_slot domain.members routers t a.slot v (at_t ∙ ap Some (eqb-true w v same)) at_a
     by_equal (inr other) =
-        let some = positive_walk u positive (walk_of_cost edges w v parts.n parts.second) (reached v parts) (eqb-false w v other) in
+        let some = positive_walk u positive (walk_of edges w v parts.n parts.second) (reached v parts) (eqb-false w v other) in
         let is_lower = lower-pair (slot_cost edges domain.members s b.slot) (slot_cost edges domain.members s a.slot) parts.m parts.n b.id a.id
         (ap (slot_cost edges domain.members s) own ∙ slot_cost-is edges domain.members s t u w at_s at_t ∙ parts.first)
         (slot_cost-is edges domain.members s a.slot u v at_s at_a ∙ parts.whole) some in
@@ -148,25 +150,25 @@ module _ (domain : Domain) (announced : Announced) (edges : List Edge) (both : I
   no_way_round : Parts edges u w u → s ≡ t
   no_way_round parts = by_equal (cases_Bool (eqb u w)) where
     none : parts.m + parts.n ≡ 0
-    none = some_is (sym parts.whole ∙ cost-itself edges u)
+    none = same_Some _ _ (sym parts.whole ∙ cost-itself edges u)
 
     by_equal : (eqb u w ≡ true) ⊎ (eqb u w ≡ false) → s ≡ t
     by_equal (inl same) = one_slot domain.members routers s t w (at_s ∙ ap Some (eqb-true u w same)) at_t
     by_equal (inr other) =
-        let some = positive_walk u positive (walk_of_cost edges u w parts.m parts.first) (ap is_some (cost-itself edges u)) (eqb-false u w other) in
+        let some = positive_walk u positive (walk_of edges u w parts.m parts.first) (ap is_some (cost-itself edges u)) (eqb-false u w other) in
         absurd (omega (arith, some, none))
 
   pub law : (egress v : ℕ) → choice_of domain announced edges s ≡ Some egress → router_at domain.members egress ≡ Some v → Parts edges u w v → choice_of domain announced edges t ≡ Some egress
   unfolding choice_of
   law egress v chosen at_egress parts = elim (own_cases s list) [
     | inl own ↦
-        let is_own : s ≡ egress = some_is (sym (choice_own s (slot_cost edges domain.members s) list own.0 own.1 own.2) ∙ chosen) in
-        let same_router : u ≡ v = some_is (sym at_s ∙ ap (router_at domain.members) is_own ∙ at_egress) in
+        let is_own : s ≡ egress = same_Some _ _ (sym (choice_own s (slot_cost edges domain.members s) list own.0 own.1 own.2) ∙ chosen) in
+        let same_router : u ≡ v = same_Some _ _ (sym at_s ∙ ap (router_at domain.members) is_own ∙ at_egress) in
         subst (λ x. choice_of domain announced edges x ≡ Some egress) (no_way_round (subst (Parts edges u w) (sym same_router) parts)) chosen
     | inr others ↦
-        let filled : list ≢ [] = λ empty. some_none (sym chosen ∙ (choice_of_none domain announced edges s).1 empty) in
+        let filled : list ≢ [] = λ empty. none-some _ (sym (sym chosen ∙ (choice_of_none domain announced edges s).1 empty)) in
         let best = choice_other s (slot_cost edges domain.members s) list others filled in
-        let is_best : best.0.slot ≡ egress = some_is (sym best.1 ∙ chosen) in
+        let is_best : best.0.slot ≡ egress = same_Some _ _ (sym best.1 ∙ chosen) in
         let at_best : router_at domain.members best.0.slot ≡ Some v = ap (router_at domain.members) is_best ∙ at_egress in
         let same = same-list (reached v parts) in
         elim (own_cases t list) [

@@ -1,31 +1,16 @@
 -- Shortest paths: what their parts cost, and which routers they have.
 use Rattle.std.proofs.Common.{◌≡◌, ◌≢◌, ℕ, zero, suc, ◌+◌, ◌<◌, ◌≤◌, Bool, true, false, ◌&&◌, ◌||◌, ◌==◌, nat_lt, ◌⊎◌, List, [], ◌∷◌, length, get_or, Contains, AllPairs, Option, Some, None, IsSome, is_some, slice_get, refl, sym, ap, subst, ◌∙◌, inl, inr, arith, eqb, ltb, eq-eqb, eqb-true}
 use Rattle.std.specs.Cmp.{IsEquivalence}
+use Rattle.std.proofs.lemmas.Option.{same_Some}
 use Rattle.std.proofs.lemmas.Bool.{false≢true, cases_Bool, ltb-true, ltb-false}
 use Rattle.rcp_base.specs.declared.names.Edge.{Edge}
 use Rattle.rcp_model.specs.Costs.{Walk, stay, step, IsCost, IsTwoWay, cost, is_reached}
 use Rattle.rcp_model.proofs.WalkLemmas.{Walk-then, Walk-edge, cost_is, cost-itself, reached_is_walk, reached_equivalence}
 use Rattle.rcp_model.proofs.MemberLemmas.{Contains-head, Contains-tail, Contains-cases, Contains-none}
+use Rattle.cost_rows.proofs.BoundLemmas.{walk_of, least_of_walk}
 use Rattle.hop_walk.specs.Hops.{IsOnTheWay, IsNext, IsLeastNext, IsPath, arrived, onward, IsFree, ArePositive}
 
 -- ---- costs and walks
-
-pub some_is : {X : Type 0} {a b : X} → Some a ≡ Some b → a ≡ b
-some_is e = cc
-
-pub some_none : {X : Type 0} {a : X} → Some a ≡ None → ⊥
-some_none e = cc
-
--- a walk has a cost, which isn't higher
-pub cost_of_walk : (edges : List Edge) (u v sum : ℕ) → Walk edges u v sum → (c : ℕ) × (cost edges u v ≡ Some c) × (c ≤ sum)
-cost_of_walk edges u v sum walk = by_cost (cost edges u v) refl (cost_is edges u v) where
-  by_cost : (o : Option ℕ) → cost edges u v ≡ o → IsCost edges u v o → (c : ℕ) × (cost edges u v ≡ Some c) × (c ≤ sum)
-  by_cost None is none = absurd (none sum walk)
-  by_cost (Some c) is least = (c, is, least.1 sum walk)
-
--- and a cost is that of a walk
-pub walk_of_cost : (edges : List Edge) (u v c : ℕ) → cost edges u v ≡ Some c → Walk edges u v c
-walk_of_cost edges u v c is = (subst (IsCost edges u v) is (cost_is edges u v)).0
 
 pub cost_of_some : (o : Option ℕ) → IsSome o → (c : ℕ) × (o ≡ Some c)
 cost_of_some None some = absurd (false≢true some)
@@ -41,10 +26,10 @@ pub record Parts (edges : List Edge) (u w v : ℕ) : Type 0 where
 
 pub parts_of : (edges : List Edge) (u w v : ℕ) → IsOnTheWay edges u w v → Parts edges u w v
 parts_of edges u w v way =
-    let first = cost_of_walk edges u w way.so_far way.first in
-    let second = cost_of_walk edges w v way.onward way.second in
-    let whole = cost_of_walk edges u v (first.0 + second.0) (Walk-then (walk_of_cost edges u w first.0 first.1) (walk_of_cost edges w v second.0 second.1)) in
-    let same : whole.0 ≡ way.so_far + way.onward = some_is (sym whole.1 ∙ way.shortest) in
+    let first = least_of_walk edges u w way.so_far way.first in
+    let second = least_of_walk edges w v way.onward way.second in
+    let whole = least_of_walk edges u v (first.0 + second.0) (Walk-then (walk_of edges u w first.0 first.1) (walk_of edges w v second.0 second.1)) in
+    let same : whole.0 ≡ way.so_far + way.onward = same_Some _ _ (sym whole.1 ∙ way.shortest) in
     let sum : whole.0 ≡ first.0 + second.0 = omega (arith, first.2, second.2, whole.2, same) in
     record { m = first.0; n = second.0; first = first.1; second = second.1; whole = whole.1 ∙ ap Some sum }
 
@@ -52,8 +37,8 @@ pub way_of_parts : (edges : List Edge) (u w v : ℕ) → Parts edges u w v → I
 way_of_parts edges u w v parts = record {
   so_far = parts.m;
   onward = parts.n;
-  first = walk_of_cost edges u w parts.m parts.first;
-  second = walk_of_cost edges w v parts.n parts.second;
+  first = walk_of edges u w parts.m parts.first;
+  second = walk_of edges w v parts.n parts.second;
   shortest = parts.whole;
 }
 
@@ -89,12 +74,12 @@ pub way-then : (edges : List Edge) (u w x v : ℕ) → IsOnTheWay edges u w v �
 way-then edges u w x v first second =
     let a = parts_of edges u w v first in
     let b = parts_of edges w x v second in
-    let same : a.n ≡ b.m + b.n = some_is (sym a.second ∙ b.whole) in
+    let same : a.n ≡ b.m + b.n = same_Some _ _ (sym a.second ∙ b.whole) in
     record {
       so_far = a.m + b.m;
       onward = b.n;
-      first = Walk-then (walk_of_cost edges u w a.m a.first) (walk_of_cost edges w x b.m b.first);
-      second = walk_of_cost edges x v b.n b.second;
+      first = Walk-then (walk_of edges u w a.m a.first) (walk_of edges w x b.m b.first);
+      second = walk_of edges x v b.n b.second;
       shortest = a.whole ∙ ap Some (omega (arith, same));
     }
 
@@ -120,5 +105,5 @@ path-way edges v (onward u next routers is path) w member = at_place (Contains-c
   at_place : (u ≡ w) ⊎ Contains routers w → (Contains routers w → IsOnTheWay edges next w v) → IsOnTheWay edges u w v
   at_place (inl same) rest =
       let cost_is = parts_of edges u next v whole in
-      subst (λ x. IsOnTheWay edges u x v) same (itself-way edges u v (cost_is.m + cost_is.n) (walk_of_cost edges u v (cost_is.m + cost_is.n) cost_is.whole) cost_is.whole)
+      subst (λ x. IsOnTheWay edges u x v) same (itself-way edges u v (cost_is.m + cost_is.n) (walk_of edges u v (cost_is.m + cost_is.n) cost_is.whole) cost_is.whole)
   at_place (inr later) rest = way-then edges u next w v whole (rest later)

@@ -1,11 +1,10 @@
 -- Paths of routers to the egress of a prefix, and what each router on the way chooses.
-use Rattle.std.specs.Prelude.{◌≡◌, ℕ, ◌+◌, ◌≤◌, Bool, true, false, List, [], ◌∷◌, length, filter, Contains, Option, Some, None}
+use Rattle.std.specs.Prelude.{◌≡◌, ℕ, ◌+◌, ◌≤◌, Bool, true, false, List, [], ◌∷◌, length, Contains, Option, Some, None}
 use Rattle.rcp_base.specs.IpPrefix.{IpPrefix}
 use Rattle.rcp_base.specs.declared.names.Edge.{Edge}
 use Rattle.rcp_model.specs.Assigned.{IsAssignment}
 use Rattle.rcp_model.specs.Costs.{Walk, cost, is_reached}
 use Rattle.rcp_model.specs.Edges.{is_edge_before}
-use Rattle.rcp_model.specs.Graphs.{include_router, routers_in}
 use Rattle.rcp_model.specs.RouteServer.{Domain, Announced, router_at, choice_of, unless_own}
 use Rattle.feed_format.specs.declared.status.WalkWhy.{WalkWhy}
 use Rattle.feed_format.specs.declared.status.WalkWhy.TheVariants as why
@@ -74,9 +73,9 @@ pub data IsPath (edges : List Edge) (v : ℕ) : ℕ → List ℕ → Type 0 wher
   arrived : IsPath edges v v (v ∷ [])
   onward : (u w : ℕ) (routers : List ℕ) → IsLeastNext edges u w v → IsPath edges v w routers → IsPath edges v u (u ∷ routers)
 
--- the routers of a partition, each once
-abbrev pub partition : List Edge → ℕ → List ℕ
-partition edges u = filter (λ v. is_reached edges u v) (include_router u (routers_in edges))
+-- a list that has each router of the partition of u
+abbrev pub HasPartition : List Edge → ℕ → List ℕ → Type 0
+HasPartition edges u routers = (v : ℕ) → is_reached edges u v ≡ true → Contains routers v
 
 -- ---- edges of cost 0
 
@@ -132,7 +131,7 @@ pub record IsAnswer (net : Network) (router : ℕ) (path : List ℕ) : Type 0 wh
   pub seat : router_of net egress ≡ Some end
   pub positive : ArePositive net.edges router
   pub is_path : IsPath net.edges end router path
-  pub few : length path ≤ length (partition net.edges router)
+  pub few : (routers : List ℕ) → HasPartition net.edges router routers → length path ≤ length routers
   pub led : AllOnTheWayAreLedTo net router egress
 
 -- Why there is none. Each cause stands where the ones above it don't.

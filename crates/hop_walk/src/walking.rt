@@ -42,6 +42,7 @@ pub fn walk<X: Assigned>(
         (X.edges platform.now) (X.connected platform.now) (X.announced platform.now) (X.given platform.now) (X.pending platform.now) prefix)
         router prefix error) }
 {
+    let _law = platform.members();
     let Some(slot) = connected_slot(platform, router) else {
         return refused(WalkWhy::NotConnected { router });
     };

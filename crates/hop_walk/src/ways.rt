@@ -1,6 +1,6 @@
 //! Shortest paths to one router.
 
-ghost use Rattle.std.specs.Prelude.{◌≡◌, ◌+◌, ◌↔◌, ℕ, Contains, Some, IfOk, IsSome, MatchOption, AllPairs, IsTrue};
+ghost use Rattle.std.specs.Prelude.{◌≡◌, ◌+◌, ◌↔◌, ℕ, map, Contains, Some, IfOk, IsSome, MatchOption, AllPairs, IsTrue};
 ghost use Rattle.rcp_model.specs.Costs.{cost};
 ghost use Rattle.rcp_model.specs.Edges.{is_edge_before};
 ghost use Rattle.rcp_base.specs.declared.names.Edge.{Edge};
@@ -47,6 +47,13 @@ fn turned(edge: &Edge) -> Edge
     }
 }
 
+/// The edges, each from its end to its beginning.
+fn turned_edges(alloc: Global, edges: &[Edge]) -> Result<Vec<Edge>, NoMemory>
+    ensures { IfOk result (λ back. back.items ≡ map turned edges.now) }
+{
+    Ok(edges.iter().map(turned).collect(alloc)?)
+}
+
 /// Sorts edges, and leaves each once.
 fn sort(edges: &mut Vec<Edge>)
     ensures rising { AllPairs (λ a b. IsTrue (is_edge_before a b)) edges.new.items }
@@ -61,7 +68,7 @@ fn sort(edges: &mut Vec<Edge>)
 fn turned_graph(alloc: Global, graph: &Graph) -> Result<Graph, NoMemory>
     ensures { IfOk result (λ back. AreTurned graph.now back) }
 {
-    let mut edges = graph.edges().iter().map(turned).collect(alloc)?;
+    let mut edges = turned_edges(alloc, graph.edges())?;
     sort(&mut edges);
     Ok(Graph::from_edges(edges))
 }
