@@ -1,5 +1,5 @@
 -- What a walk answers.
-use Rattle.std.proofs.Common.{◌≡◌, ◌≢◌, ℕ, ◌+◌, ◌<◌, ◌≤◌, true, List, [], ◌∷◌, length, Contains, AllPairs, Option, Some, None, IsSome, is_some, refl, sym, ap, subst, ◌∙◌, arith}
+use Rattle.std.proofs.Common.{◌≡◌, ◌≢◌, ℕ, ◌+◌, ◌<◌, ◌≤◌, true, List, length, Contains, AllPairs, Option, Some, IsSome, is_some, sym, ap, subst, ◌∙◌, arith}
 use Rattle.std.proofs.lemmas.Option.{same_Some, none-some}
 use Rattle.std.proofs.lemmas.List.Kept.{AllPairs-cons}
 use Rattle.rcp_base.specs.declared.names.Edge.{Edge}
@@ -14,7 +14,7 @@ use Rattle.hop_walk.specs.Hops.{HopLaw, IsPath, arrived, onward, IsFree, IsLeast
 use Rattle.hop_walk.specs.Ways.{IsFreeTo, IsLeastFreeTo}
 use Rattle.hop_walk.proofs.WayLemmas.{parts_of, path-way, reach-same, reach-turned}
 use Rattle.hop_walk.proofs.LawLemmas.{law, slot_cost-is, slot_cost-seat}
-use Rattle.hop_walk.proofs.StepLemmas.{cost_left, next_smaller}
+use Rattle.hop_walk.proofs.StepLemmas.{next_smaller}
 
 -- ---- the hop law
 

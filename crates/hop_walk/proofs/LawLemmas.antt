@@ -1,23 +1,20 @@
 -- The hop law: a connected router on a shortest path to an egress chooses that egress.
 use Rattle.std.proofs.Common.{◌≡◌, ◌≢◌, ℕ, zero, suc, ◌+◌, ◌<◌, ◌≤◌, Bool, true, false, ◌&&◌, ◌||◌, ◌==◌, nat_lt, ◌⊎◌, List, [], ◌∷◌, length, get_or, Contains, AllPairs, IsSomeAnd, Option, Some, None, IsSome, is_some, refl, sym, ap, subst, ◌∙◌, inl, inr, arith, eqb, ltb, eq-eqb, eqb-true}
 use Rattle.std.specs.List.{list_any}
-use Rattle.std.specs.Cmp.{IsEquivalence}
 use Rattle.std.proofs.lemmas.Bool.{false≢true, cases_Bool, ltb-true, ltb-false, eqb-false}
 use Rattle.std.proofs.lemmas.Option.{same_Some, none-some}
 use Rattle.std.proofs.lemmas.Bool.Decides.{nat_tests}
-use Rattle.rcp_base.specs.IpPrefix.{IpPrefix}
 use Rattle.rcp_base.specs.declared.names.Edge.{Edge}
 use Rattle.rcp_base.specs.declared.names.Member.{Member}
-use Rattle.rcp_model.specs.Assigned.{IsAssignment}
 use Rattle.rcp_model.specs.Costs.{IsTwoWay, cost, is_reached}
-use Rattle.rcp_model.specs.Decision.{Contender, tied, is_of, is_lower_pair, is_nearer, choice, IsNearest}
-use Rattle.rcp_model.specs.RouteServer.{Domain, Announced, router_at, cost_between, slot_cost, announcement_contender, cons_some, candidates_from, candidates, choice_of, unless_own, offer, IsCandidate}
+use Rattle.rcp_model.specs.Decision.{Contender, tied, is_of, is_lower_pair, IsNearest}
+use Rattle.rcp_model.specs.RouteServer.{Domain, Announced, router_at, cost_between, slot_cost, announcement_contender, candidates_from, candidates, choice_of}
 use Rattle.rcp_model.proofs.WalkLemmas.{cost-itself, cost_over}
 use Rattle.rcp_model.proofs.MemberLemmas.{any_member, none_at_member}
 use Rattle.rcp_model.proofs.FilterLemmas.{member_of_tied, choice_own, choice_other}
 use Rattle.rcp_model.proofs.CandidateLemmas.{candidate_is, choice_of_none, choice_of_nearest}
 use Rattle.cost_rows.proofs.BoundLemmas.{walk_of}
-use Rattle.hop_walk.specs.Hops.{IsOnTheWay, ArePositive}
+use Rattle.hop_walk.specs.Hops.{ArePositive}
 use Rattle.hop_walk.proofs.WayLemmas.{cost_of_some, Parts, reach-same, positive_walk}
 
 -- ---- candidates depend only on which routers are reached

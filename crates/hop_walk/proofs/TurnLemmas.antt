@@ -1,5 +1,5 @@
 -- Edges the other way round: the graph that they are, and the costs over it.
-use Rattle.std.proofs.Common.{◌≡◌, ℕ, ◌+◌, ◌≤◌, ◌↔◌, List, length, map, All, AllPairs, Contains, IsTrue, Option, Some, None, refl, sym, subst, ◌∙◌, arith}
+use Rattle.std.proofs.Common.{◌≡◌, ℕ, ◌+◌, ◌≤◌, List, map, AllPairs, Contains, IsTrue, Option, Some, None, subst, arith}
 use Rattle.rcp_base.specs.declared.names.Edge.{Edge}
 use Rattle.rcp_model.specs.Costs.{Walk, stay, step, IsCost, cost}
 use Rattle.rcp_model.specs.Edges.{is_edge_before}

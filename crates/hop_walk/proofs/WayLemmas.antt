@@ -1,14 +1,13 @@
 -- Shortest paths: what their parts cost, and which routers they have.
-use Rattle.std.proofs.Common.{◌≡◌, ◌≢◌, ℕ, zero, suc, ◌+◌, ◌<◌, ◌≤◌, Bool, true, false, ◌&&◌, ◌||◌, ◌==◌, nat_lt, ◌⊎◌, List, [], ◌∷◌, length, get_or, Contains, AllPairs, Option, Some, None, IsSome, is_some, slice_get, refl, sym, ap, subst, ◌∙◌, inl, inr, arith, eqb, ltb, eq-eqb, eqb-true}
-use Rattle.std.specs.Cmp.{IsEquivalence}
+use Rattle.std.proofs.Common.{◌≡◌, ◌≢◌, ℕ, zero, suc, ◌+◌, ◌<◌, true, ◌⊎◌, List, [], Contains, Option, Some, None, IsSome, refl, sym, ap, subst, ◌∙◌, inl, inr, arith}
 use Rattle.std.proofs.lemmas.Option.{same_Some}
-use Rattle.std.proofs.lemmas.Bool.{false≢true, cases_Bool, ltb-true, ltb-false}
+use Rattle.std.proofs.lemmas.Bool.{false≢true}
 use Rattle.rcp_base.specs.declared.names.Edge.{Edge}
-use Rattle.rcp_model.specs.Costs.{Walk, stay, step, IsCost, IsTwoWay, cost, is_reached}
-use Rattle.rcp_model.proofs.WalkLemmas.{Walk-then, Walk-edge, cost_is, cost-itself, reached_is_walk, reached_equivalence}
-use Rattle.rcp_model.proofs.MemberLemmas.{Contains-head, Contains-tail, Contains-cases, Contains-none}
+use Rattle.rcp_model.specs.Costs.{Walk, stay, step, IsTwoWay, cost, is_reached}
+use Rattle.rcp_model.proofs.WalkLemmas.{Walk-then, Walk-edge, cost-itself, reached_equivalence}
+use Rattle.rcp_model.proofs.MemberLemmas.{Contains-cases, Contains-none}
 use Rattle.cost_rows.proofs.BoundLemmas.{walk_of, least_of_walk}
-use Rattle.hop_walk.specs.Hops.{IsOnTheWay, IsNext, IsLeastNext, IsPath, arrived, onward, IsFree, ArePositive}
+use Rattle.hop_walk.specs.Hops.{IsOnTheWay, IsNext, IsPath, arrived, onward, ArePositive}
 
 -- ---- costs and walks
 

@@ -1,7 +1,6 @@
-use Rattle.std.proofs.Common.{◌≡◌, ◌++◌, ◌+◌, List, drop, Vec, Global, sym, ap, ◌∙◌, subst, arith}
+use Rattle.std.proofs.Common.{◌≡◌, ◌++◌, ◌+◌, ◌<◌, List, length, drop, sym, ap, ◌∙◌, subst, arith}
 use Rattle.rcp_model.specs.Decision.{Contender}
 use Rattle.rcp_model.specs.RouteServer.{slot_cost, candidates_from, candidates}
-use Rattle.decision.specs.declared.candidate.Candidate.{Candidate}
 use Rattle.hop_walk.proofs.CandidateSteps.{domain_of, passed_none, passed_some, passed_all}
 use Rattle.hop_walk.proofs.choosing.candidates.Goals as goal
 use Rattle.hop_walk.proofs.choosing.candidates.Goals.{in-Some+in_ok-push, in_default}
@@ -13,7 +12,7 @@ loop-place-preserved g c =
     let announced = g.X.Assigned.announced c.args.platform.now c.args.prefix in
     let costs = slot_cost (g.X.Costs.edges c.args.platform.now) members c.args.from in
     let all = candidates_from domain announced costs 0 members in
-    let within = omega (arith, c.members-place-end.ensures.count, c.loop-place-test.true) in
+    let within : c.loop-place.place < length members = omega (arith, c.members-place-end.ensures.count, c.loop-place-test.true) in
     elim c.match-candidate_at.branch [
       | in-Some+in_ok-push w ↦
           passed_some domain announced costs members c.loop-place.place within c.candidate_at.result c.candidate_at.ensures c.loop-place.list.items c.match-candidate_at.list.items all

@@ -1,6 +1,6 @@
 -- With the candidates of the other members they are those of all.
 use Rattle.std.proofs.Common.{◌≡◌, ◌++◌, drop}
-use Rattle.rcp_model.specs.RouteServer.{Domain, slot_cost, candidates_from}
+use Rattle.rcp_model.specs.RouteServer.{slot_cost, candidates_from}
 use Rattle.hop_walk.proofs.CandidateSteps.{domain_of}
 use Rattle.hop_walk.proofs.choosing.candidates.Given as goal
 

@@ -1,4 +1,4 @@
-use Rattle.std.proofs.Common.{sym, ap, ◌∙◌, false, true}
+use Rattle.std.proofs.Common.{sym, ◌∙◌}
 use Rattle.std.proofs.lemmas.Bool.{false≢true}
 use Rattle.hop_walk.proofs.StepLemmas.{found_next, passed_edge, no_next}
 use Rattle.hop_walk.proofs.ways.Ways.next_hop.Goals as goal

@@ -1,4 +1,3 @@
-use Rattle.std.proofs.Common.{◌≡◌, ℕ, None, sym, ap, ◌∙◌, subst}
 use Rattle.hop_walk.proofs.StepLemmas.{next_reached, next_smaller, path_goes_on, path_ends}
 use Rattle.hop_walk.proofs.ways.Ways.path_from.Goals as goal
 

@@ -1,5 +1,5 @@
 -- What leads from the last router to the end leads there from the first one.
-use Rattle.std.proofs.Common.{◌≡◌, ◌++◌, ◌∷◌, ℕ, List, IsSome}
+use Rattle.std.proofs.Common.{◌++◌, ◌∷◌, ℕ, List, IsSome}
 use Rattle.rcp_model.specs.Costs.{cost}
 use Rattle.hop_walk.specs.Hops.{IsPath}
 use Rattle.hop_walk.proofs.StepLemmas.{cost_left}
