@@ -1,0 +1,13 @@
+//! The platform by what can be asked of it, and its shards as the parts of its server: laws on which an engine stands that
+//! keeps a server for each shard and no lists in the order of arrival.
+//!
+//! Each law is the contract of a function with an empty body. A caller may rely on these:
+//!
+//! - `parts`: an event of the server is the same event on the shards that it concerns.
+//!
+//! ```text
+//! platform_laws::parts::an_event_acts_on_its_shards();   // in a proof: its clause `one`, at the event of a call
+//! ```
+#![tactic(auto)]
+
+pub mod parts;
