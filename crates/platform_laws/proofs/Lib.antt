@@ -1,1 +1,3 @@
 pub mod PartEvents
+pub mod TableLemmas
+pub mod TurnSteps

@@ -3,7 +3,8 @@
 //!
 //! Each law is the contract of a function with an empty body. A caller may rely on these:
 //!
-//! - `parts`: an event of the server is the same event on the shards that it concerns.
+//! - `parts`: an event of the server is the same event on the shards that it concerns;
+//! - `turns`: the turns of a record are the same, and each is its events on the shards.
 //!
 //! ```text
 //! platform_laws::parts::an_event_acts_on_its_shards();   // in a proof: its clause `one`, at the event of a call
@@ -11,3 +12,4 @@
 #![tactic(auto)]
 
 pub mod parts;
+pub mod turns;
