@@ -1,3 +1,4 @@
 pub mod PartEvents
 pub mod TableLemmas
 pub mod TurnSteps
+pub mod LinkSteps

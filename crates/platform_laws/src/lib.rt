@@ -4,12 +4,14 @@
 //! Each law is the contract of a function with an empty body. A caller may rely on these:
 //!
 //! - `parts`: an event of the server is the same event on the shards that it concerns;
-//! - `turns`: the turns of a record are the same, and each is its events on the shards.
+//! - `turns`: the turns of a record are the same, and each is its events on the shards;
+//! - `links`: each shard learns of the same edges, once a record.
 //!
 //! ```text
 //! platform_laws::parts::an_event_acts_on_its_shards();   // in a proof: its clause `one`, at the event of a call
 //! ```
 #![tactic(auto)]
 
+pub mod links;
 pub mod parts;
 pub mod turns;
