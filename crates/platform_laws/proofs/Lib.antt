@@ -2,3 +2,10 @@ pub mod PartEvents
 pub mod TableLemmas
 pub mod TurnSteps
 pub mod LinkSteps
+pub mod RisingLists
+pub mod ShardAnswers
+pub mod PendingLists
+pub mod Counts
+pub mod ShardWork
+pub mod CellSteps
+pub mod WorkSteps
