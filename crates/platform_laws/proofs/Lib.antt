@@ -9,3 +9,4 @@ pub mod Counts
 pub mod ShardWork
 pub mod CellSteps
 pub mod WorkSteps
+pub mod RecordSteps

@@ -6,7 +6,8 @@
 //! - `parts`: an event of the server is the same event on the shards that it concerns;
 //! - `turns`: the turns of a record are the same, and each is its events on the shards;
 //! - `links`: each shard learns of the same edges, once a record;
-//! - `work`: the same prefixes are worked, shard by shard, and the same UPDATEs and counts are put out.
+//! - `work`: the same prefixes are worked, shard by shard, and the same UPDATEs and counts are put out;
+//! - `records`: a whole record, and the platform to which nothing happened.
 //!
 //! ```text
 //! platform_laws::parts::an_event_acts_on_its_shards();   // in a proof: its clause `one`, at the event of a call
@@ -15,5 +16,6 @@
 
 pub mod links;
 pub mod parts;
+pub mod records;
 pub mod turns;
 pub mod work;
