@@ -38,7 +38,7 @@ changed-listed (p ∷ ps) before now = at_test (same_octets (cell_of before p) (
   at_test true rest = rest
   at_test false rest = ap (λ l. (p, cell_of now p) ∷ l) rest
 
-same-cell : (o : Option Table) (p : IpPrefix) → cell_in o p ≡ cell_of o p
+pub same-cell : (o : Option Table) (p : IpPrefix) → cell_in o p ≡ cell_of o p
 same-cell None p = refl
 same-cell (Some table) p = refl
 

@@ -1,3 +1,4 @@
+pub mod EachValue
 pub mod PartEvents
 pub mod TableLemmas
 pub mod TurnSteps
@@ -10,3 +11,5 @@ pub mod ShardWork
 pub mod CellSteps
 pub mod WorkSteps
 pub mod RecordSteps
+pub mod SoundShards
+pub mod AnswerLemmas

@@ -1,98 +1,30 @@
 -- An event of the server is the same event on the shards that it concerns.
-use Rattle.std.proofs.Common.{◌≡◌, ℕ, zero, suc, ◌+◌, ◌<◌, Bool, true, false, cond, eqb, ◌&&◌, List, [], ◌∷◌, length, map, Option, Some, None, IfSome, refl, sym, ap, ◌∙◌, subst, arith}
+use Rattle.std.proofs.Common.{◌≡◌, ℕ, zero, suc, ◌+◌, ◌<◌, Bool, true, false, cond, eqb, List, [], ◌∷◌, length, map, Some, None, refl, sym, ap, ◌∙◌, subst, arith}
 use Rattle.std.specs.Prelude.{slice_get, slice_set}
-use Rattle.std.specs.FinMap as map_of
-use Rattle.std.specs.FinSet as set_of
-use Rattle.std.specs.List.{list_any, AllByRecursion}
-use Rattle.std.specs.Ordering.{nat_cmp, eq_by_cmp}
+use Rattle.std.specs.List.{AllByRecursion}
 use Rattle.std.proofs.lemmas.Bool.{eq-eqb, ne_eqb}
 use Rattle.rcp_base.specs.IpPrefix.{IpPrefix}
-use Rattle.rcp_base.specs.Maps.{same_prefix}
 use Rattle.rcp_base.specs.Roster.{RosterOf}
 use Rattle.rcp_model.specs.Routes.{RouteFields}
 use Rattle.rcp_model.specs.RouteServer.{Domain, Server, ServerEvent, after, after_all, slot_cost}
 use Rattle.rcp_model.specs.RouteServer as lists
-use Rattle.rcp_model.specs.Decision.{choice}
-use Rattle.rcp_model.specs.ServerRibs.{Values, Reader, octets_reader, contenders_from, of_other, offer_of, RibEvent, Change, Work, event_of, Rib, Ribs, at_prefix, with_value, without_slot, is_up, offered, AreSettled, ribs_after, ribs_of, part, is_of, concerns}
+use Rattle.rcp_model.specs.ServerRibs.{octets_reader, RibEvent, event_of, Ribs, at_prefix, AreSettled, ribs_after, ribs_of, part, is_of, concerns}
 use Rattle.rib_laws.specs.Readings.{IsRead, IsCanonical, IsCanonicalChange}
-use Rattle.rib_laws.proofs.RibLookups.{get-with_value, get-without_slot, get-with_each}
 use Rattle.rib_laws.proofs.JoinLemmas.{join}
 use Rattle.rib_laws.proofs.PartLemmas.{get-owned, part_after}
 use Rattle.rib_laws.proofs.ReadLemmas.{routes_read}
 use Rattle.rib_laws.proofs.SettledLemmas.{settled_after}
+use Rattle.platform_laws.proofs.EachValue.{if_cond, if_same, each-after}
 use Rattle.feed_meaning.specs.Platform.{domain_of}
 use Rattle.platform_laws.specs.Parts.{shard_number, roster_reader, own_route, shards_from, shards_after, shards_after_all, route_event, IsCanonicalEvent, AreReadFrom, AreCanonical, AreParts, AllSettled}
-
--- ---- canonical octets
-
--- octets in the form in which attributes are sent on, where there are any
-abbrev pub IsForm : Option (List ℕ) → Type 0
-IsForm o = IfSome o IsCanonical
-
-if_cond : (b : Bool) (x y : Option (List ℕ)) → IsForm x → IsForm y → IsForm (cond b x y)
-if_cond true x y h g = h
-if_cond false x y h g = g
-
-if_same : (x y : Option (List ℕ)) → x ≡ y → IsForm x → IsForm y
-if_same x y same h = subst IsForm same h
-
-without-canonical : (slot : ℕ) (rib : Rib (List ℕ)) → ((p : IpPrefix) (s : ℕ) → IfSome (at_prefix rib p s) IsCanonical) → (p : IpPrefix) (s : ℕ) → IfSome (at_prefix (without_slot slot rib) p s) IsCanonical
-without-canonical slot rib h p s =
-    if_same (cond (eqb s slot) None (map_of.get rib (p, s))) (at_prefix (without_slot slot rib) p s) (sym (get-without_slot slot rib (p, s)))
-    (if_cond (eqb s slot) None (map_of.get rib (p, s)) tt (h p s))
-
-other-canonical : (slot : ℕ) (values : Values (List ℕ)) (chosen : Option ℕ) → ((s : ℕ) → IfSome (values s) IsCanonical) → IfSome (of_other slot values chosen) IsCanonical
-other-canonical slot values None h = tt
-other-canonical slot values (Some chosen) h = if_cond (eqb chosen slot) None (values chosen) tt (h chosen)
-
--- what is offered is announced
-pub offered-canonical : (reader : Reader (List ℕ)) (ribs : Ribs (List ℕ)) (p : IpPrefix) (s : ℕ) → AreCanonical ribs → IfSome (offered reader ribs p s) IsCanonical
-unfolding offer_of
-offered-canonical reader ribs p s h =
-    other-canonical s (at_prefix ribs.announced p)
-    (choice s (slot_cost ribs.edges reader.members s) (contenders_from reader.route (at_prefix ribs.announced p) (slot_cost ribs.edges reader.members s) 0 reader.members))
-    (h.announced p)
-
-canonical-change : (reader : Reader (List ℕ)) (slot : ℕ) (q : IpPrefix) (value : Option (List ℕ)) (ribs : Ribs (List ℕ)) → IfSome value IsCanonical → AreCanonical ribs
-    → AreCanonical (ribs_after reader (Change slot q value) ribs)
-unfolding ribs_after
-canonical-change reader slot q value ribs good h = at_test (is_up ribs slot && _) where
-  at_test : (b : Bool) → AreCanonical (cond b (record ribs { announced = with_value (q, slot) value ribs.announced; pending = set_of.insert ribs.pending q }) ribs)
-  at_test true = record {
-    announced = λ p s.
-        if_same (cond (same_prefix p q && eqb s slot) value (map_of.get ribs.announced (p, s))) (at_prefix (with_value (q, slot) value ribs.announced) p s)
-        (sym (get-with_value (q, slot) value ribs.announced (p, s)))
-        (if_cond (same_prefix p q && eqb s slot) value (map_of.get ribs.announced (p, s)) good (h.announced p s));
-    given = h.given;
-  }
-  at_test false = h
-
-canonical-work : (reader : Reader (List ℕ)) (q : IpPrefix) (ribs : Ribs (List ℕ)) → AreCanonical ribs → AreCanonical (ribs_after reader (Work q) ribs)
-unfolding ribs_after
-canonical-work reader q ribs h = record {
-  announced = h.announced;
-  given = λ p s.
-      let here = same_prefix p q && list_any (eq_by_cmp nat_cmp s) (set_of.items ribs.connected) in
-      if_same (cond here (offered reader ribs q s) (map_of.get ribs.given (p, s))) (map_of.get (ribs_after reader (Work q) ribs).given (p, s))
-      (sym (get-with_each q (offered reader ribs q) (set_of.items ribs.connected) ribs.given (p, s)))
-      (if_cond here (offered reader ribs q s) (map_of.get ribs.given (p, s)) (offered-canonical reader ribs q s h) (h.given p s));
-}
-
-canonical-after : (reader : Reader (List ℕ)) (event : ServerEvent) (ribs : Ribs (List ℕ)) → IsCanonicalEvent event → AreCanonical ribs → AreCanonical (ribs_after reader (event_of event) ribs)
-unfolding ribs_after
-canonical-after reader (lists.Up slot) ribs good h = record { announced = h.announced; given = without-canonical slot ribs.given h.given }
-canonical-after reader (lists.Down slot) ribs good h = record { announced = without-canonical slot ribs.announced h.announced; given = without-canonical slot ribs.given h.given }
-canonical-after reader (lists.Change slot q value) ribs good h = canonical-change reader slot q value ribs good h
-canonical-after reader (lists.Links edges) ribs good h = record { announced = h.announced; given = h.given }
-canonical-after reader (lists.Work q) ribs good h = canonical-work reader q ribs h
 
 -- a change of a part is canonical
 part-canonical : (owns : IpPrefix → Bool) (event : ServerEvent) (ribs : Ribs (List ℕ)) → IsCanonicalEvent event → AreCanonical ribs → IsCanonicalChange (part owns ribs) (event_of event)
 part-canonical owns (lists.Up slot) ribs good h = tt
 part-canonical owns (lists.Down slot) ribs good h = tt
 part-canonical owns (lists.Change slot p value) ribs good h = (
-  if_same (cond (owns p) (at_prefix ribs.announced p slot) None) (at_prefix (part owns ribs).announced p slot) (sym (get-owned owns ribs.announced p slot))
-      (if_cond (owns p) (at_prefix ribs.announced p slot) None (h.announced p slot) tt),
+  if_same IsCanonical (cond (owns p) (at_prefix ribs.announced p slot) None) (at_prefix (part owns ribs).announced p slot) (sym (get-owned owns ribs.announced p slot))
+      (if_cond IsCanonical (owns p) (at_prefix ribs.announced p slot) None (h.announced p slot) tt),
   good,
 )
 part-canonical owns (lists.Links edges) ribs good h = tt
@@ -140,7 +72,7 @@ parts-after roster event server shards h good =
       some = h.some;
       count = from-length roster (route_event roster event) 0 shards ∙ h.count;
       read = all-read roster event (ribs_of server) good h.canonical 0 shards h.read;
-      canonical = canonical-after (octets_reader (domain_of roster)) event (ribs_of server) good h.canonical;
+      canonical = each-after IsCanonical (octets_reader (domain_of roster)) (event_of event) (ribs_of server) good h.canonical;
     })
 
 pub parts-after_all : (roster : RosterOf) (events : List ServerEvent) (server : Server) (shards : List (Ribs RouteFields)) → AreParts roster (ribs_of server) shards → AllByRecursion IsCanonicalEvent events

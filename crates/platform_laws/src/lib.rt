@@ -7,13 +7,15 @@
 //! - `turns`: the turns of a record are the same, and each is its events on the shards;
 //! - `links`: each shard learns of the same edges, once a record;
 //! - `work`: the same prefixes are worked, shard by shard, and the same UPDATEs and counts are put out;
-//! - `records`: a whole record, and the platform to which nothing happened.
+//! - `records`: a whole record, and the platform to which nothing happened;
+//! - `answers`: what is asked of the shards is what the platform answers, and it is an assignment.
 //!
 //! ```text
 //! platform_laws::parts::an_event_acts_on_its_shards();   // in a proof: its clause `one`, at the event of a call
 //! ```
 #![tactic(auto)]
 
+pub mod answers;
 pub mod links;
 pub mod parts;
 pub mod records;
