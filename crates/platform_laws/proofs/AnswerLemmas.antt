@@ -132,11 +132,8 @@ module _ (roster : RosterOf) (edges : List Edge) (connected : set_of.FinSet nat_
 
 -- what a shard has is of its own prefixes
 module _ (roster : RosterOf) (edges : List Edge) (connected : set_of.FinSet nat_cmp) (shards : List (Ribs RouteFields)) (h : AreSound roster edges connected shards) (n : ℕ) (ribs : Ribs RouteFields) (is : slice_get shards n ≡ Some ribs) where
-  here : IsSoundShard roster edges connected n ribs
+  pub here : IsSoundShard roster edges connected n ribs
   here = let same : n + 0 ≡ n = omega arith in subst (λ k. IsSoundShard roster edges connected k ribs) same (sound-at roster edges connected 0 n shards ribs h.each is)
 
   pub own-prefixes : (p : IpPrefix) (slot : ℕ) → (IsSome (at_prefix ribs.announced p slot) → shard_number roster p ≡ n) × (IsSome (at_prefix ribs.given p slot) → shard_number roster p ≡ n) × (has_pending ribs p ≡ true → shard_number roster p ≡ n)
   own-prefixes p slot = (own-announced roster edges connected n ribs here p slot, own-given roster edges connected n ribs here p slot, own-pending roster edges connected n ribs here p)
-
-  pub same-everywhere : (ribs.edges ≡ edges) × (ribs.connected ≡ connected)
-  same-everywhere = (here.edges_are, here.connected_are)

@@ -11,5 +11,6 @@ pub mod ShardWork
 pub mod CellSteps
 pub mod WorkSteps
 pub mod RecordSteps
+pub mod IdleSlots
 pub mod SoundShards
 pub mod AnswerLemmas

@@ -19,6 +19,7 @@ use Rattle.rib_laws.proofs.SettledLemmas.{settled_after, settled_empty}
 use Rattle.platform_laws.specs.Parts.{shard_number, roster_reader, shards_from, shards_after, Announces, IsSoundShard, AreSoundFrom, AreSound, edges_after, connected_after}
 use Rattle.platform_laws.proofs.EachValue.{each-after}
 use Rattle.platform_laws.proofs.PartEvents.{from-length}
+use Rattle.platform_laws.proofs.IdleSlots.{idle-after}
 
 change-edges : {V : Type 0} (b : Bool) (slot : ℕ) (q : IpPrefix) (value : Option V) (ribs : Ribs V)
     → (cond b (record ribs { announced = with_value (q, slot) value ribs.announced; pending = set_of.insert ribs.pending q }) ribs).edges ≡ ribs.edges
@@ -59,6 +60,7 @@ module _ (roster : RosterOf) (edges : List Edge) (connected : set_of.FinSet nat_
     edges_are = edges-then (roster_reader roster) event ribs ∙ ap (edges_after event) h.edges_are;
     connected_are = connected-then (roster_reader roster) event ribs ∙ ap (connected_after event) h.connected_are;
     routes = each-after (IsRouteOf roster.as_number) (roster_reader roster) event ribs good h.routes;
+    idle = idle-after (roster_reader roster) ribs h.idle event;
     settled = settled_after (roster_reader roster) event ribs h.settled;
   }
 
@@ -160,6 +162,7 @@ sound-empty roster edges number =
         announced = λ p s. if_none (IsRouteOf roster.as_number) (at_prefix empty.announced p s) (nothing edges p s).0;
         given = λ p s. if_none (IsRouteOf roster.as_number) (at_prefix empty.given p s) (nothing edges p s).1;
       };
+      idle = λ slot p down. nothing edges p slot;
       settled = settled_empty (roster_reader roster) edges;
     }
 

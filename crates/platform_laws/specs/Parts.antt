@@ -1,5 +1,5 @@
 -- The server of a platform in parts, one for each shard: how they are read from it, and what an event does to them.
-use Rattle.std.specs.Prelude.{◌≡◌, ℕ, suc, ◌≤◌, List, [], ◌∷◌, length, IfSome, if◌then◌else◌}
+use Rattle.std.specs.Prelude.{◌≡◌, ℕ, suc, ◌≤◌, List, [], ◌∷◌, length, false, None, IfSome, if◌then◌else◌}
 use Rattle.std.specs.List.{AllByRecursion}
 use Rattle.std.specs.FinSet as set_of
 use Rattle.std.specs.Ordering.{nat_cmp}
@@ -10,7 +10,7 @@ use Rattle.rcp_model.specs.Attributes.{number_width}
 use Rattle.rcp_model.specs.Routes.{RouteFields, route_in}
 use Rattle.rcp_model.specs.Telling.{IsRouteOf}
 use Rattle.rcp_model.specs.RouteServer.{ServerEvent}
-use Rattle.rcp_model.specs.ServerRibs.{Reader, route_reader, RibEvent, Up, Down, Change, Links, Work, event_of, Ribs, at_prefix, AreSettled, ribs_after, part, is_of, concerns}
+use Rattle.rcp_model.specs.ServerRibs.{Reader, route_reader, RibEvent, Up, Down, Change, Links, Work, event_of, Ribs, at_prefix, is_up, AreSettled, ribs_after, part, is_of, concerns}
 use Rattle.rib_laws.specs.Readings.{IsRead, read_event, IsCanonical}
 
 -- the number of a prefix's shard, and the shard's prefixes
@@ -88,13 +88,18 @@ pub record AreParts (roster : RosterOf) (octets : Ribs (List ℕ)) (shards : Lis
 abbrev pub AllSettled : RosterOf → List (Ribs RouteFields) → Type 0
 AllSettled roster shards = AllByRecursion (AreSettled (roster_reader roster)) shards
 
+-- a slot that isn't connected announces nothing and is given nothing
+abbrev pub AreIdle : Ribs RouteFields → Type 0
+AreIdle ribs = (slot : ℕ) (p : IpPrefix) → is_up ribs slot ≡ false → (at_prefix ribs.announced p slot ≡ None) × (at_prefix ribs.given p slot ≡ None)
+
 -- What the shard of a number keeps, where these are the edges and these slots are connected: what it has is of its own prefixes; each
--- route has the fields of its octets; and it is settled.
+-- route has the fields of its octets; slots that aren't connected have nothing; and it is settled.
 pub record IsSoundShard (roster : RosterOf) (edges : List Edge) (connected : set_of.FinSet nat_cmp) (number : ℕ) (ribs : Ribs RouteFields) : Type 0 where
   pub own : part (is_of (shard_number roster) number) ribs ≡ ribs
   pub edges_are : ribs.edges ≡ edges
   pub connected_are : ribs.connected ≡ connected
   pub routes : HaveEach (IsRouteOf roster.as_number) ribs
+  pub idle : AreIdle ribs
   pub settled : AreSettled (roster_reader roster) ribs
 
 -- each of these shards does, of which the first has this number

@@ -1,6 +1,6 @@
 //! What is asked of the shards: it is what the platform answers, and the answers are an assignment.
 
-ghost use Rattle.std.specs.Prelude.{◌≡◌, ◌≤◌, ℕ, true, List, Some, IfSome, IsSome, replicate, slice_get};
+ghost use Rattle.std.specs.Prelude.{◌≡◌, ◌≤◌, ℕ, true, false, Option, List, Some, IfSome, IsSome, replicate, slice_get};
 ghost use Rattle.std.specs.FinSet as set_of;
 ghost use Rattle.std.specs.Ordering.{nat_cmp};
 ghost use Rattle.rcp_base.specs.IpPrefix.{IpPrefix};
@@ -12,11 +12,11 @@ ghost use Rattle.rcp_model.specs.Graphs.{IsGraph, AreMembers};
 ghost use Rattle.rcp_model.specs.Routes.{RouteFields};
 ghost use Rattle.rcp_model.specs.RouteServer.{announced_by, announced_at, table_of, offer};
 ghost use Rattle.rcp_model.specs.RouteServer as lists;
-ghost use Rattle.rcp_model.specs.ServerRibs.{RibEvent, Ribs, at_prefix, has_pending, offered, empty_ribs};
+ghost use Rattle.rcp_model.specs.ServerRibs.{RibEvent, Down, Change, Ribs, at_prefix, is_up, has_pending, offered, empty_ribs, ribs_after};
 ghost use Rattle.rcp_model.specs.Telling.{IsRouteOf};
 ghost use Rattle.feed_meaning.specs.Platform.{Platform, domain_of};
 ghost use Rattle.feed_meaning.specs.Work.{cell_of};
-ghost use Rattle.platform_laws.specs.Parts.{shard_number, roster_reader, shards_after, Announces, AreSound, edges_after, connected_after};
+ghost use Rattle.platform_laws.specs.Parts.{shard_number, roster_reader, shards_after, Announces, AreIdle, IsSoundShard, AreSound, edges_after, connected_after};
 ghost use Rattle.platform_laws.specs.Platforms.{PlatformOf, IsSeen};
 ghost use Rattle.platform_laws.specs.Asked.{shard_of, is_connected, is_pending, announced_route, given_route, octets_of};
 
@@ -61,12 +61,21 @@ pub fn sound_shards_are_an_assignment()
         → IfSome (announced_route roster shards p slot) (IsRouteOf roster.as_number) × IfSome (given_route roster shards p slot) (IsRouteOf roster.as_number) }
 {}
 
-/// A sound shard has routes and pending prefixes of its own number alone, and the edges and the connected slots that all have.
+/// A shard of sound ones is sound by its number, and so it has routes and pending prefixes of its own number alone.
 pub fn sound_shards_have_their_own_prefixes()
     ensures own { (roster : RosterOf) (edges : List Edge) (connected : set_of.FinSet nat_cmp) (shards : List (Ribs RouteFields)) → AreSound roster edges connected shards
         → (n : ℕ) (ribs : Ribs RouteFields) → slice_get shards n ≡ Some ribs → (p : IpPrefix) (slot : ℕ)
         → (IsSome (at_prefix ribs.announced p slot) → shard_number roster p ≡ n) × (IsSome (at_prefix ribs.given p slot) → shard_number roster p ≡ n)
         × (has_pending ribs p ≡ true → shard_number roster p ≡ n) }
     ensures same { (roster : RosterOf) (edges : List Edge) (connected : set_of.FinSet nat_cmp) (shards : List (Ribs RouteFields)) → AreSound roster edges connected shards
-        → (n : ℕ) (ribs : Ribs RouteFields) → slice_get shards n ≡ Some ribs → (ribs.edges ≡ edges) × (ribs.connected ≡ connected) }
+        → (n : ℕ) (ribs : Ribs RouteFields) → slice_get shards n ≡ Some ribs → IsSoundShard roster edges connected n ribs }
+{}
+
+/// A slot that isn't connected announces nothing and is given nothing: its Down and its changes are nothing.
+pub fn idle_slots_change_nothing()
+    ensures down { (roster : RosterOf) (ribs : Ribs RouteFields) → AreIdle ribs → (slot : ℕ) → is_up ribs slot ≡ false
+        → ribs_after (roster_reader roster) (Down slot) ribs ≡ ribs }
+    ensures change { (roster : RosterOf) (ribs : Ribs RouteFields) → AreIdle ribs → (slot : ℕ) (p : IpPrefix) (route : Option RouteFields) → is_up ribs slot ≡ false
+        → ribs_after (roster_reader roster) (Change slot p route) ribs ≡ ribs }
+    ensures kept { (roster : RosterOf) (ribs : Ribs RouteFields) → AreIdle ribs → (event : RibEvent RouteFields) → AreIdle (ribs_after (roster_reader roster) event ribs) }
 {}
