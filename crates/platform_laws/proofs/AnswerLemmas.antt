@@ -1,9 +1,9 @@
 -- What is asked of the shards is what is asked of the platform, and it is an assignment.
-use Rattle.std.proofs.Common.{◌≡◌, ℕ, ◌+◌, true, false, List, Option, Some, None, IfSome, IsSome, option_map, refl, sym, ap, ◌∙◌, subst, arith}
+use Rattle.std.proofs.Common.{◌≡◌, ℕ, ◌+◌, true, false, List, Option, Some, None, IfSome, IsSome, is_some, ◌↔◌, option_map, refl, sym, ap, ◌∙◌, subst, arith}
 use Rattle.std.specs.Prelude.{slice_get}
 use Rattle.std.specs.FinSet as set_of
 use Rattle.std.specs.Ordering.{nat_cmp}
-use Rattle.std.proofs.lemmas.Bool.{eq-eqb}
+use Rattle.std.proofs.lemmas.Bool.{eq-eqb, false≢true}
 use Rattle.rcp_base.specs.IpPrefix.{IpPrefix}
 use Rattle.rcp_base.specs.declared.names.Edge.{Edge}
 use Rattle.rcp_base.specs.Roster.{RosterOf}
@@ -137,3 +137,42 @@ module _ (roster : RosterOf) (edges : List Edge) (connected : set_of.FinSet nat_
 
   pub own-prefixes : (p : IpPrefix) (slot : ℕ) → (IsSome (at_prefix ribs.announced p slot) → shard_number roster p ≡ n) × (IsSome (at_prefix ribs.given p slot) → shard_number roster p ≡ n) × (has_pending ribs p ≡ true → shard_number roster p ≡ n)
   own-prefixes p slot = (own-announced roster edges connected n ribs here p slot, own-given roster edges connected n ribs here p slot, own-pending roster edges connected n ribs here p)
+
+-- ---- somewhere in the shards
+
+some_announced : (o : Option (Ribs RouteFields)) (p : IpPrefix) (slot : ℕ) → IsSome (announced_in o p slot) → (ribs : Ribs RouteFields) × (o ≡ Some ribs) × IsSome (at_prefix ribs.announced p slot)
+some_announced None p slot some = absurd (false≢true some)
+some_announced (Some ribs) p slot some = (ribs, refl, some)
+
+some_given : (o : Option (Ribs RouteFields)) (p : IpPrefix) (slot : ℕ) → IsSome (given_in o p slot) → (ribs : Ribs RouteFields) × (o ≡ Some ribs) × IsSome (at_prefix ribs.given p slot)
+some_given None p slot some = absurd (false≢true some)
+some_given (Some ribs) p slot some = (ribs, refl, some)
+
+some_waits : (o : Option (Ribs RouteFields)) (p : IpPrefix) → waits_in o p ≡ true → (ribs : Ribs RouteFields) × (o ≡ Some ribs) × (has_pending ribs p ≡ true)
+some_waits None p some = absurd (false≢true some)
+some_waits (Some ribs) p some = (ribs, refl, some)
+
+module _ (roster : RosterOf) (edges : List Edge) (connected : set_of.FinSet nat_cmp) (shards : List (Ribs RouteFields)) (h : AreSound roster edges connected shards) (p : IpPrefix) (slot : ℕ) where
+  pub announced-somewhere : IsSome (announced_route roster shards p slot) ↔ ((n : ℕ) × (ribs : Ribs RouteFields) × (slice_get shards n ≡ Some ribs) × IsSome (at_prefix ribs.announced p slot))
+  announced-somewhere = (
+    λ some. let found = some_announced (shard_of roster shards p) p slot some in (shard_number roster p, found.0, found.1, found.2),
+    λ found.
+        let own = (own-prefixes roster edges connected shards h found.0 found.1 found.2 p slot).0 found.3 in
+        ap (λ o. is_some (announced_in o p slot)) (ap (slice_get shards) own ∙ found.2) ∙ found.3,
+  )
+
+  pub given-somewhere : IsSome (given_route roster shards p slot) ↔ ((n : ℕ) × (ribs : Ribs RouteFields) × (slice_get shards n ≡ Some ribs) × IsSome (at_prefix ribs.given p slot))
+  given-somewhere = (
+    λ some. let found = some_given (shard_of roster shards p) p slot some in (shard_number roster p, found.0, found.1, found.2),
+    λ found.
+        let own = (own-prefixes roster edges connected shards h found.0 found.1 found.2 p slot).1 found.3 in
+        ap (λ o. is_some (given_in o p slot)) (ap (slice_get shards) own ∙ found.2) ∙ found.3,
+  )
+
+  pub pending-somewhere : (is_pending roster shards p ≡ true) ↔ ((n : ℕ) × (ribs : Ribs RouteFields) × (slice_get shards n ≡ Some ribs) × (has_pending ribs p ≡ true))
+  pending-somewhere = (
+    λ some. let found = some_waits (shard_of roster shards p) p some in (shard_number roster p, found.0, found.1, found.2),
+    λ found.
+        let own = (own-prefixes roster edges connected shards h found.0 found.1 found.2 p slot).2 found.3 in
+        ap (λ o. waits_in o p) (ap (slice_get shards) own ∙ found.2) ∙ found.3,
+  )

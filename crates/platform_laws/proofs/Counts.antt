@@ -6,6 +6,7 @@ use Rattle.rcp_base.specs.IpPrefix.{IpPrefix}
 use Rattle.rcp_base.specs.Maps.{include_all, is_among}
 use Rattle.rcp_base.specs.Roster.{RosterOf}
 use Rattle.rcp_base.proofs.MapLemmas.{is_among-include_all}
+use Rattle.rcp_model.specs.Rising.{IsRising}
 use Rattle.rcp_model.specs.Routes.{RouteFields}
 use Rattle.rcp_model.specs.RouteServer.{Server, Announcements, announced_prefixes}
 use Rattle.rcp_model.specs.ServerRibs.{Rib, Ribs, Prefixes, at_prefix, prefixes_of, ribs_of, part, is_of}
@@ -14,11 +15,11 @@ use Rattle.rcp_model.proofs.RibLemmas.{prefix_total, prefix_exact}
 use Rattle.rcp_model.proofs.RisingLemmas.{rising-include_all}
 use Rattle.rib_laws.specs.Totals.{total_below}
 use Rattle.rib_laws.proofs.RibLookups.{same_test, has_of_prefixes, prefixes_of_has}
-use Rattle.rib_laws.proofs.ListLookups.{prefixes_in_lists}
-use Rattle.rib_laws.proofs.CountLemmas.{announced_counted}
+use Rattle.rib_laws.proofs.ListLookups.{pending_in_lists, prefixes_in_lists}
+use Rattle.rib_laws.proofs.CountLemmas.{announced_counted, pending_counted}
 use Rattle.platform_laws.specs.Parts.{shard_number, own_route, AreReadFrom, AreParts}
 use Rattle.platform_laws.specs.Platforms.{AreOnce}
-use Rattle.platform_laws.specs.Asked.{connected_count, announced_count}
+use Rattle.platform_laws.specs.Asked.{connected_count, sum_over, announced_count, pending_count}
 use Rattle.platform_laws.proofs.RisingLists.{len-set, len-tables}
 use Rattle.platform_laws.proofs.ShardAnswers.{number-below, connected_count-seen}
 
@@ -42,20 +43,43 @@ same-prefixes f values reads read = set_of.same_set prefix_total prefix_exact (a
     let has = has_of_prefixes (λ e. true) values p inside in
     prefixes_of_has (λ e. true) reads p (record { slot = has.slot; passes = refl; there = ap is_some (read p has.slot) ∙ mapped_some f (at_prefix values p has.slot) ∙ has.there })))
 
+-- each shard, of which the first has this number, has what its number has
+abbrev IsSummed : (ℕ → ℕ) → (Ribs RouteFields → ℕ) → ℕ → List (Ribs RouteFields) → Type 0
+IsSummed f g number [] = Unit {0}
+IsSummed f g number (ribs ∷ shards) = (g ribs ≡ f number) × IsSummed f g (suc number) shards
+
 -- the sum over the shards is that over their numbers
-sum-from : (roster : RosterOf) (octets : Ribs (List ℕ)) (number : ℕ) (shards : List (Ribs RouteFields)) → AreReadFrom roster octets number shards
-    → total_below (λ n. set_of.len (all_of (part (is_of (shard_number roster) n) octets).announced)) (length shards + number)
-    ≡ total_below (λ n. set_of.len (all_of (part (is_of (shard_number roster) n) octets).announced)) number + announced_count shards
-sum-from roster octets number [] read =
-    let f : ℕ → ℕ = λ n. set_of.len (all_of (part (is_of (shard_number roster) n) octets).announced) in
-    let none : 0 + number ≡ number = omega arith in
-    ap (total_below f) none ∙ omega arith
-sum-from roster octets number (ribs ∷ shards) read =
-    let f : ℕ → ℕ = λ n. set_of.len (all_of (part (is_of (shard_number roster) n) octets).announced) in
-    let here : set_of.len (all_of ribs.announced) ≡ f number = ap set_of.len (same-prefixes (own_route roster) (part (is_of (shard_number roster) number) octets).announced ribs.announced read.0.announced) in
-    let rest : total_below f (length shards + suc number) ≡ total_below f (suc number) + announced_count shards = sum-from roster octets (suc number) shards read.1 in
+sum-from : (f : ℕ → ℕ) (g : Ribs RouteFields → ℕ) (number : ℕ) (shards : List (Ribs RouteFields)) → IsSummed f g number shards
+    → total_below f (length shards + number) ≡ total_below f number + sum_over g shards
+sum-from f g number [] each = let none : 0 + number ≡ number = omega arith in ap (total_below f) none ∙ omega arith
+sum-from f g number (ribs ∷ shards) each =
+    let here : g ribs ≡ f number = each.0 in
+    let rest : total_below f (length shards + suc number) ≡ total_below f (suc number) + sum_over g shards = sum-from f g (suc number) shards each.1 in
     let moved : suc (length shards) + number ≡ length shards + suc number = omega arith in
     ap (total_below f) moved ∙ rest ∙ omega (arith, here)
+
+-- from the first shard on
+sum-all : (f : ℕ → ℕ) (g : Ribs RouteFields → ℕ) (count : ℕ) (shards : List (Ribs RouteFields)) → length shards ≡ count → IsSummed f g 0 shards → total_below f count ≡ sum_over g shards
+sum-all f g count shards long each =
+    let last : count ≡ length shards + 0 = omega (arith, long) in
+    let parts : total_below f (length shards + 0) ≡ total_below f 0 + sum_over g shards = sum-from f g 0 shards each in
+    ap (total_below f) last ∙ parts ∙ omega arith
+
+abbrev announced_len : Ribs RouteFields → ℕ
+announced_len ribs = set_of.len (all_of ribs.announced)
+
+announced-summed : (roster : RosterOf) (octets : Ribs (List ℕ)) (number : ℕ) (shards : List (Ribs RouteFields)) → AreReadFrom roster octets number shards
+    → IsSummed (λ n. set_of.len (all_of (part (is_of (shard_number roster) n) octets).announced)) announced_len number shards
+announced-summed roster octets number [] read = tt
+announced-summed roster octets number (ribs ∷ shards) read = (
+  ap set_of.len (same-prefixes (own_route roster) (part (is_of (shard_number roster) number) octets).announced ribs.announced read.0.announced),
+  announced-summed roster octets (suc number) shards read.1,
+)
+
+pending-summed : (roster : RosterOf) (octets : Ribs (List ℕ)) (number : ℕ) (shards : List (Ribs RouteFields)) → AreReadFrom roster octets number shards
+    → IsSummed (λ n. set_of.len (part (is_of (shard_number roster) n) octets).pending) (λ ribs. set_of.len ribs.pending) number shards
+pending-summed roster octets number [] read = tt
+pending-summed roster octets number (ribs ∷ shards) read = (ap set_of.len read.0.pending, pending-summed roster octets (suc number) shards read.1)
 
 -- ---- the counts
 
@@ -79,9 +103,12 @@ module _ (roster : RosterOf) (server : Server) (shards : List (Ribs RouteFields)
 
   pub announced-counted : length (include_all (announced_prefixes server.announcements) []) ≡ announced_count shards
   announced-counted =
-      let f : ℕ → ℕ = λ n. set_of.len (all_of (part (is_of (shard_number roster) n) (ribs_of server)).announced) in
-      let whole : set_of.len (all_of (ribs_of server).announced) ≡ total_below f roster.shards = announced_counted (shard_number roster) roster.shards (λ p. number-below roster p h.some) (ribs_of server) in
-      let long : roster.shards ≡ length shards + 0 = omega (arith, h.count) in
-      let parts : total_below f (length shards + 0) ≡ total_below f 0 + announced_count shards = sum-from roster (ribs_of server) 0 shards h.read in
       sym (len-set (all_of (ribs_of server).announced) (include_all (announced_prefixes server.announcements) []) (rising-include_all (announced_prefixes server.announcements) [] tt) listed)
-      ∙ whole ∙ ap (total_below f) long ∙ parts ∙ omega arith
+      ∙ announced_counted (shard_number roster) roster.shards (λ p. number-below roster p h.some) (ribs_of server)
+      ∙ sum-all (λ n. set_of.len (all_of (part (is_of (shard_number roster) n) (ribs_of server)).announced)) announced_len roster.shards shards h.count (announced-summed roster (ribs_of server) 0 shards h.read)
+
+  pub pending-counted : IsRising server.pending → length server.pending ≡ pending_count shards
+  pending-counted rising =
+      sym (len-set (ribs_of server).pending server.pending rising (λ p. sym (pending_in_lists server p)))
+      ∙ pending_counted (shard_number roster) roster.shards (λ p. number-below roster p h.some) (ribs_of server)
+      ∙ sum-all (λ n. set_of.len (part (is_of (shard_number roster) n) (ribs_of server)).pending) (λ ribs. set_of.len ribs.pending) roster.shards shards h.count (pending-summed roster (ribs_of server) 0 shards h.read)

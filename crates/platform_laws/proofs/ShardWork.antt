@@ -1,18 +1,21 @@
 -- Work on a list of prefixes is, in each shard, work on its own.
-use Rattle.std.proofs.Common.{◌≡◌, ℕ, zero, suc, ◌+◌, ◌<◌, Bool, true, false, cond, List, [], ◌∷◌, map, take, Some, None, refl, sym, ap, ◌∙◌, subst, arith}
+use Rattle.std.proofs.Common.{not, ◌&&◌, ◌≡◌, ℕ, zero, suc, ◌+◌, ◌<◌, Bool, true, false, cond, List, [], ◌∷◌, map, take, Some, None, refl, sym, ap, ◌∙◌, subst, arith}
 use Rattle.std.specs.Prelude.{filter, slice_get, slice_set}
 use Rattle.std.specs.FinSet as set_of
 use Rattle.std.specs.List.{AllByRecursion}
 use Rattle.std.proofs.lemmas.Bool.{eq-eqb, eqb-true, ne_eqb}
 use Rattle.rcp_base.specs.IpPrefix.{IpPrefix}
+use Rattle.rcp_base.specs.Maps.{same_prefix}
 use Rattle.rcp_base.specs.Roster.{RosterOf}
 use Rattle.rcp_model.specs.Assigned.{IsLeast}
 use Rattle.rcp_model.specs.Rising.{IsRising}
 use Rattle.rcp_model.specs.Routes.{RouteFields}
 use Rattle.rcp_model.specs.RouteServer.{Server}
-use Rattle.rcp_model.specs.ServerRibs.{RibEvent, Work, Ribs, has_pending, ribs_of, ribs_after, ribs_after_all, is_of, concerns, part}
+use Rattle.rcp_model.specs.ServerRibs.{RibEvent, Work, Ribs, at_prefix, is_up, offered, has_pending, ribs_of, ribs_after, ribs_after_all, is_of, concerns, part}
 use Rattle.rcp_model.proofs.RisingLemmas.{take-keeps}
+use Rattle.rcp_model.proofs.RibLemmas.{prefix_total}
 use Rattle.rib_laws.specs.Readings.{IsRead}
+use Rattle.rib_laws.proofs.RibLookups.{prefix_tied, get-with_each}
 use Rattle.platform_laws.specs.Parts.{shard_number, roster_reader, own_route, shards_from, shards_after, shards_after_all, AreReadFrom, AreParts}
 use Rattle.platform_laws.specs.Asked.{rising_of}
 use Rattle.platform_laws.specs.Work.{works, worked_least, worked_all}
@@ -168,3 +171,17 @@ module _ (roster : RosterOf) (ribs : Ribs RouteFields) where
   pub none-asked : worked_least roster 0 ribs ≡ ribs
   unfolding ribs_after_all
   none-asked = refl
+
+-- ---- one prefix
+
+module _ (roster : RosterOf) (ribs : Ribs RouteFields) (p q : IpPrefix) where
+  pub cells-after : (slot : ℕ) → at_prefix (ribs_after (roster_reader roster) (Work p) ribs).given q slot
+      ≡ cond (same_prefix q p && is_up ribs slot) (offered (roster_reader roster) ribs p slot) (at_prefix ribs.given q slot)
+  unfolding ribs_after
+  cells-after slot =
+      get-with_each p (offered (roster_reader roster) ribs p) (set_of.items ribs.connected) ribs.given (q, slot)
+      ∙ ap (λ b. cond (same_prefix q p && b) (offered (roster_reader roster) ribs p slot) (at_prefix ribs.given q slot)) (sym (set_of.contains-items ribs.connected slot))
+
+  pub waits-after : has_pending (ribs_after (roster_reader roster) (Work p) ribs) q ≡ (not (same_prefix q p) && has_pending ribs q)
+  unfolding ribs_after
+  waits-after = set_of.contains-remove prefix_total ribs.pending p q ∙ ap (λ b. not b && has_pending ribs q) (prefix_tied q p)

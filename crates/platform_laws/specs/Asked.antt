@@ -69,7 +69,14 @@ up_count (Some ribs) = set_of.len ribs.connected
 abbrev pub connected_count : List (Ribs RouteFields) → ℕ
 connected_count shards = up_count (slice_get shards 0)
 
--- how many prefixes are announced: the sum over the shards
+-- the sum over the shards
+abbrev pub sum_over : (Ribs RouteFields → ℕ) → List (Ribs RouteFields) → ℕ
+sum_over f [] = 0
+sum_over f (ribs ∷ shards) = f ribs + sum_over f shards
+
+-- how many prefixes are announced, and how many are pending
 abbrev pub announced_count : List (Ribs RouteFields) → ℕ
-announced_count [] = 0
-announced_count (ribs ∷ shards) = set_of.len (prefixes_of (λ e. true) ribs.announced) + announced_count shards
+announced_count shards = sum_over (λ ribs. set_of.len (prefixes_of (λ e. true) ribs.announced)) shards
+
+abbrev pub pending_count : List (Ribs RouteFields) → ℕ
+pending_count shards = sum_over (λ ribs. set_of.len ribs.pending) shards

@@ -1,6 +1,6 @@
 //! What is asked of the shards: it is what the platform answers, and the answers are an assignment.
 
-ghost use Rattle.std.specs.Prelude.{◌≡◌, ◌≤◌, ℕ, true, false, Option, List, Some, IfSome, IsSome, replicate, slice_get};
+ghost use Rattle.std.specs.Prelude.{◌≡◌, ◌↔◌, length, ◌≤◌, ℕ, true, false, Option, List, Some, IfSome, IsSome, replicate, slice_get};
 ghost use Rattle.std.specs.FinSet as set_of;
 ghost use Rattle.std.specs.Ordering.{nat_cmp};
 ghost use Rattle.rcp_base.specs.IpPrefix.{IpPrefix};
@@ -18,7 +18,7 @@ ghost use Rattle.feed_meaning.specs.Platform.{Platform, domain_of};
 ghost use Rattle.feed_meaning.specs.Work.{cell_of};
 ghost use Rattle.platform_laws.specs.Parts.{shard_number, roster_reader, shards_after, Announces, AreIdle, IsSoundShard, AreSound, edges_after, connected_after};
 ghost use Rattle.platform_laws.specs.Platforms.{PlatformOf, IsSeen};
-ghost use Rattle.platform_laws.specs.Asked.{shard_of, is_connected, is_pending, announced_route, given_route, octets_of};
+ghost use Rattle.platform_laws.specs.Asked.{shard_of, is_connected, is_pending, announced_route, given_route, octets_of, pending_count};
 
 /// The shards answer what the platform does: who is connected, what is pending, what each slot announces, is given and is
 /// offered, and over which edges.
@@ -78,4 +78,18 @@ pub fn idle_slots_change_nothing()
     ensures change { (roster : RosterOf) (ribs : Ribs RouteFields) → AreIdle ribs → (slot : ℕ) (p : IpPrefix) (route : Option RouteFields) → is_up ribs slot ≡ false
         → ribs_after (roster_reader roster) (Change slot p route) ribs ≡ ribs }
     ensures kept { (roster : RosterOf) (ribs : Ribs RouteFields) → AreIdle ribs → (event : RibEvent RouteFields) → AreIdle (ribs_after (roster_reader roster) event ribs) }
+{}
+
+/// A slot announces a prefix, is given a route for it, or it is pending, exactly where that is so in some shard.
+pub fn sound_shards_answer_together()
+    ensures announced { (roster : RosterOf) (edges : List Edge) (connected : set_of.FinSet nat_cmp) (shards : List (Ribs RouteFields)) → AreSound roster edges connected shards
+        → (p : IpPrefix) (slot : ℕ) → IsSome (announced_route roster shards p slot)
+        ↔ ((n : ℕ) × (ribs : Ribs RouteFields) × (slice_get shards n ≡ Some ribs) × IsSome (at_prefix ribs.announced p slot)) }
+    ensures given { (roster : RosterOf) (edges : List Edge) (connected : set_of.FinSet nat_cmp) (shards : List (Ribs RouteFields)) → AreSound roster edges connected shards
+        → (p : IpPrefix) (slot : ℕ) → IsSome (given_route roster shards p slot)
+        ↔ ((n : ℕ) × (ribs : Ribs RouteFields) × (slice_get shards n ≡ Some ribs) × IsSome (at_prefix ribs.given p slot)) }
+    ensures pending { (roster : RosterOf) (edges : List Edge) (connected : set_of.FinSet nat_cmp) (shards : List (Ribs RouteFields)) → AreSound roster edges connected shards
+        → (p : IpPrefix) → (is_pending roster shards p ≡ true)
+        ↔ ((n : ℕ) × (ribs : Ribs RouteFields) × (slice_get shards n ≡ Some ribs) × (has_pending ribs p ≡ true)) }
+    ensures pending_count { (platform : Platform) (seen : PlatformOf) → IsSeen platform seen → length platform.server.pending ≡ pending_count seen.shards }
 {}

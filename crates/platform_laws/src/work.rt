@@ -1,13 +1,14 @@
 //! The work of a record: which prefixes are worked, in which shards, which cells change by it, and what a summary counts.
 
-ghost use Rattle.std.specs.Prelude.{◌≡◌, ℕ, suc, true, List, Some, None, map, slice_get, slice_set};
+ghost use Rattle.std.specs.Prelude.{◌≡◌, ℕ, suc, true, not, ◌&&◌, if◌then◌else◌, List, Some, None, map, slice_get, slice_set};
 ghost use Rattle.rcp_base.specs.IpPrefix.{IpPrefix};
 ghost use Rattle.rcp_base.specs.declared.kinds.Kind.{Kind};
+ghost use Rattle.rcp_base.specs.Maps.{same_prefix};
 ghost use Rattle.rcp_base.specs.Roster.{RosterOf};
 ghost use Rattle.rcp_model.specs.Assigned.{IsLeast};
 ghost use Rattle.rcp_model.specs.Rising.{IsRising};
 ghost use Rattle.rcp_model.specs.Routes.{RouteFields};
-ghost use Rattle.rcp_model.specs.ServerRibs.{Work, Ribs, has_pending, ribs_after};
+ghost use Rattle.rcp_model.specs.ServerRibs.{Work, Ribs, at_prefix, is_up, offered, has_pending, ribs_after};
 ghost use Rattle.feed_meaning.specs.Platform.{Platform};
 ghost use Rattle.feed_meaning.specs.OutRecords.{summary};
 ghost use Rattle.feed_meaning.specs.Work.{shard_in, count_in, work_updates, work_on, work_act};
@@ -70,4 +71,13 @@ pub fn cells_that_change_are_known_by_their_order()
         → changed_prefixes seen.roster prefixes seen.shards (shards_worked prefixes seen) slot ≡ changed }
     ensures drain { (seen : PlatformOf) → IsRising (all_pending seen.shards) }
     ensures slice { (seen : PlatformOf) (body : List ℕ) → IsRising (slice_of seen body) }
+{}
+
+/// Work on a prefix gives each connected slot there what it is offered, and then the prefix isn't pending. All else stays.
+pub fn work_sets_the_cells_of_its_prefix()
+    ensures cells { (roster : RosterOf) (ribs : Ribs RouteFields) (p q : IpPrefix) (slot : ℕ)
+        → at_prefix (ribs_after (roster_reader roster) (Work p) ribs).given q slot
+        ≡ (if same_prefix q p && is_up ribs slot then offered (roster_reader roster) ribs p slot else at_prefix ribs.given q slot) }
+    ensures pending { (roster : RosterOf) (ribs : Ribs RouteFields) (p q : IpPrefix)
+        → has_pending (ribs_after (roster_reader roster) (Work p) ribs) q ≡ (not (same_prefix q p) && has_pending ribs q) }
 {}
