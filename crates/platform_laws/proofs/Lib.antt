@@ -14,3 +14,4 @@ pub mod RecordSteps
 pub mod IdleSlots
 pub mod SoundShards
 pub mod AnswerLemmas
+pub mod DirtyCells

@@ -11,7 +11,7 @@ use Rattle.rcp_model.specs.Assigned.{IsLeast}
 use Rattle.rcp_model.specs.Rising.{IsRising}
 use Rattle.rcp_model.specs.Routes.{RouteFields}
 use Rattle.rcp_model.specs.RouteServer.{Server}
-use Rattle.rcp_model.specs.ServerRibs.{RibEvent, Work, Ribs, at_prefix, is_up, offered, has_pending, ribs_of, ribs_after, ribs_after_all, is_of, concerns, part}
+use Rattle.rcp_model.specs.ServerRibs.{Reader, RibEvent, Work, Ribs, at_prefix, is_up, offered, has_pending, ribs_of, ribs_after, ribs_after_all, is_of, concerns, part}
 use Rattle.rcp_model.proofs.RisingLemmas.{take-keeps}
 use Rattle.rcp_model.proofs.RibLemmas.{prefix_total}
 use Rattle.rib_laws.specs.Readings.{IsRead}
@@ -174,14 +174,14 @@ module _ (roster : RosterOf) (ribs : Ribs RouteFields) where
 
 -- ---- one prefix
 
-module _ (roster : RosterOf) (ribs : Ribs RouteFields) (p q : IpPrefix) where
-  pub cells-after : (slot : ℕ) → at_prefix (ribs_after (roster_reader roster) (Work p) ribs).given q slot
-      ≡ cond (same_prefix q p && is_up ribs slot) (offered (roster_reader roster) ribs p slot) (at_prefix ribs.given q slot)
+module _ (reader : Reader RouteFields) (ribs : Ribs RouteFields) (p q : IpPrefix) where
+  pub cells-after : (slot : ℕ) → at_prefix (ribs_after reader (Work p) ribs).given q slot
+      ≡ cond (same_prefix q p && is_up ribs slot) (offered reader ribs p slot) (at_prefix ribs.given q slot)
   unfolding ribs_after
   cells-after slot =
-      get-with_each p (offered (roster_reader roster) ribs p) (set_of.items ribs.connected) ribs.given (q, slot)
-      ∙ ap (λ b. cond (same_prefix q p && b) (offered (roster_reader roster) ribs p slot) (at_prefix ribs.given q slot)) (sym (set_of.contains-items ribs.connected slot))
+      get-with_each p (offered reader ribs p) (set_of.items ribs.connected) ribs.given (q, slot)
+      ∙ ap (λ b. cond (same_prefix q p && b) (offered reader ribs p slot) (at_prefix ribs.given q slot)) (sym (set_of.contains-items ribs.connected slot))
 
-  pub waits-after : has_pending (ribs_after (roster_reader roster) (Work p) ribs) q ≡ (not (same_prefix q p) && has_pending ribs q)
+  pub waits-after : has_pending (ribs_after reader (Work p) ribs) q ≡ (not (same_prefix q p) && has_pending ribs q)
   unfolding ribs_after
   waits-after = set_of.contains-remove prefix_total ribs.pending p q ∙ ap (λ b. not b && has_pending ribs q) (prefix_tied q p)

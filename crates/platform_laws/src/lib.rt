@@ -8,7 +8,8 @@
 //! - `links`: each shard learns of the same edges, once a record;
 //! - `work`: the same prefixes are worked, shard by shard, and the same UPDATEs and counts are put out;
 //! - `records`: a whole record, and the platform to which nothing happened;
-//! - `answers`: what is asked of the shards is what the platform answers, and it is an assignment.
+//! - `answers`: what is asked of the shards is what the platform answers, and it is an assignment;
+//! - `dirty`: the cells that change are those that a shard has dirty.
 //!
 //! ```text
 //! platform_laws::parts::an_event_acts_on_its_shards();   // in a proof: its clause `one`, at the event of a call
@@ -16,6 +17,7 @@
 #![tactic(auto)]
 
 pub mod answers;
+pub mod dirty;
 pub mod links;
 pub mod parts;
 pub mod records;
