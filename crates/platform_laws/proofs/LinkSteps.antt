@@ -60,7 +60,7 @@ seen-with_links : (platform : Platform) (seen : PlatformOf) (state : LinkState) 
 seen-with_links platform seen state edges new h holds is = record {
   roster = h.roster;
   sessions = h.sessions;
-  moment = h.moment;
+  time = h.time;
   stream = h.stream;
   link_state = holds;
   shards = subst (AreParts platform.roster (ribs_of (with_link_state new platform).server)) (λ i. shards_after (sym h.roster i) (Links (sym is i)) seen.shards)
@@ -75,7 +75,7 @@ seen-at_stream : (platform : Platform) (seen : PlatformOf) (a b : LinkStream) �
 seen-at_stream platform seen a b h is = record {
   roster = h.roster;
   sessions = h.sessions;
-  moment = h.moment;
+  time = h.time;
   stream = is;
   link_state = h.link_state;
   shards = h.shards;
@@ -91,7 +91,7 @@ module _ (platform : Platform) (seen : PlatformOf) (h : IsSeen platform seen) (s
   edges-are : (new : LinkState) → AreEdges seen.roster state edges → Holds state new → edges ≡ edges_of new platform.roster.links
   edges-are new are holds = are new holds ∙ ap (λ r. edges_of new r.links) h.roster
 
-  seen-octets : (stream : LinkStream) (body : List ℕ) → LeadsByPackets seen.roster seen.moment (packets_by (capped_stream stream) body) seen.link_state state → AreEdges seen.roster state edges
+  seen-octets : (stream : LinkStream) (body : List ℕ) → LeadsByPackets seen.roster seen.time (packets_by (capped_stream stream) body) seen.link_state state → AreEdges seen.roster state edges
       → IsSeen (stream_act stream body platform).after (after_octets (capped_stream stream) body state edges seen)
   seen-octets Lost body leads are = h
   seen-octets (Reading held place) body leads are =
@@ -103,7 +103,7 @@ module _ (platform : Platform) (seen : PlatformOf) (h : IsSeen platform seen) (s
       same-stream (packets_in octets) capped_at at (rest_in octets) (front_of (rest_in octets)) (least-twice place (length (concat (packets_in octets)))) in
       let holds : Holds state (after_packets platform.roster.area platform.moment found.packets platform.link_state) =
       subst (λ (l : LinkState). Holds state l)
-      (λ i. after_packets (h.roster i).area (h.moment i) (sym (found-packets (packets_in octets) at (rest_in octets) (front_of (rest_in octets))) i) platform.link_state)
+      (λ i. after_packets (h.roster i).area (h.time i) (sym (found-packets (packets_in octets) at (rest_in octets) (front_of (rest_in octets))) i) platform.link_state)
       (leads platform.link_state h.link_state) in
       seen-with_links (record platform { stream = found.stream })
       (record seen { stream = capped_stream (held_after (packets_in octets) capped_at (rest_in octets) (front_of (rest_in octets))).stream })
@@ -115,9 +115,9 @@ module _ (platform : Platform) (seen : PlatformOf) (h : IsSeen platform seen) (s
   pub seen-links : (body : List ℕ) (k : Kind) → IsLinkedBy seen body k state edges → IsSeen (links_act platform body k).after (seen_after_links seen body k state edges)
   seen-links body kind.Links by =
       subst (λ s. IsSeen (stream_act platform.stream body platform).after (after_octets s body state edges seen)) (sym h.stream)
-      (seen-octets platform.stream body (subst (λ s. LeadsByPackets seen.roster seen.moment (packets_by s body) seen.link_state state) h.stream by.0) by.1)
+      (seen-octets platform.stream body (subst (λ s. LeadsByPackets seen.roster seen.time (packets_by s body) seen.link_state state) h.stream by.0) by.1)
   seen-links body kind.Time by =
-      let holds : Holds state (aged platform.moment platform.link_state) = subst (λ m. Holds state (aged m platform.link_state)) h.moment (by.0 platform.link_state h.link_state) in
+      let holds : Holds state (aged platform.moment platform.link_state) = subst (λ m. Holds state (aged m platform.link_state)) h.time (by.0 platform.link_state h.link_state) in
       seen-with_links platform seen state edges (aged platform.moment platform.link_state) h holds (edges-are (aged platform.moment platform.link_state) by.1 holds)
   seen-links body kind.Roster by = h
   seen-links body kind.Ready by = h

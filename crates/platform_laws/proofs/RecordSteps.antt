@@ -91,7 +91,7 @@ unfolding empty_server
 seen-fresh roster some = record {
   roster = refl;
   sessions = refl;
-  moment = refl;
+  time = refl;
   stream = refl;
   link_state = record { same = λ router. refl; once = tt };
   shards = record {

@@ -23,41 +23,41 @@ use Rattle.feed_meaning.specs.SessionTurns.{Turn, turn, is_free, simple_turn, cl
 use Rattle.feed_meaning.proofs.EventLemmas.{rising-all}
 use Rattle.platform_laws.specs.Parts.{route_event, IsCanonicalEvent, AreParts, shards_after_all}
 use Rattle.platform_laws.specs.Platforms.{PlatformOf, KeepOctets, IsSeen, capped_stream}
-use Rattle.platform_laws.specs.Turns.{turns_of_record, shard_event, end_of_seat, events_of_seat, seen_after_turn, seen_after_turns, noted_at, IsTelling}
+use Rattle.platform_laws.specs.Turns.{turns_of_record, shard_event, end_of_seat, events_of_seat, seen_after_turn, seen_after_turns, noted_at, IsTurnInForm}
 use Rattle.platform_laws.proofs.PartEvents.{parts-after_all}
 use Rattle.platform_laws.proofs.TableLemmas.{once-all}
 
 -- ---- the events of a turn
 
-told-event : (roster : RosterOf) (slot : ℕ) (event : SessionEvent) → IsTold roster.as_number event → route_event roster (server_event slot event) ≡ shard_event slot event
-told-event roster slot session.Up told = refl
-told-event roster slot (Announce p route) told = λ i. Change slot p (Some (sym told.1.fields i))
-told-event roster slot (Withdraw p) told = refl
+form-event : (roster : RosterOf) (slot : ℕ) (event : SessionEvent) → IsTold roster.as_number event → route_event roster (server_event slot event) ≡ shard_event slot event
+form-event roster slot session.Up form = refl
+form-event roster slot (Announce p route) form = λ i. Change slot p (Some (sym form.1.fields i))
+form-event roster slot (Withdraw p) form = refl
 
-told-seat : (roster : RosterOf) (slot : ℕ) (events : List SessionEvent) (closed : Option Ending) → AllByRecursion (IsTold roster.as_number) events
+form-seat : (roster : RosterOf) (slot : ℕ) (events : List SessionEvent) (closed : Option Ending) → AllByRecursion (IsTold roster.as_number) events
     → map (route_event roster) (map (server_event slot) events ++ end_events slot closed) ≡ map (shard_event slot) events ++ end_of_seat slot closed
-told-seat roster slot [] None told = refl
-told-seat roster slot [] (Some ending) told = refl
-told-seat roster slot (event ∷ events) closed told = λ i. told-event roster slot event told.0 i ∷ told-seat roster slot events closed told.1 i
+form-seat roster slot [] None form = refl
+form-seat roster slot [] (Some ending) form = refl
+form-seat roster slot (event ∷ events) closed form = λ i. form-event roster slot event form.0 i ∷ form-seat roster slot events closed form.1 i
 
-told-events : (roster : RosterOf) (seat : Option ℕ) (does : Doing) → AllByRecursion (IsTold roster.as_number) does.events → map (route_event roster) (seat_events seat does) ≡ events_of_seat seat does
-told-events roster None does told = refl
-told-events roster (Some slot) does told = told-seat roster slot does.events does.closed told
+form-events : (roster : RosterOf) (seat : Option ℕ) (does : Doing) → AllByRecursion (IsTold roster.as_number) does.events → map (route_event roster) (seat_events seat does) ≡ events_of_seat seat does
+form-events roster None does form = refl
+form-events roster (Some slot) does form = form-seat roster slot does.events does.closed form
 
 canonical-event : (as_number slot : ℕ) (event : SessionEvent) → IsTold as_number event → IsCanonicalEvent (server_event slot event)
-canonical-event as_number slot session.Up told = tt
-canonical-event as_number slot (Announce p route) told = told.1.canonical
-canonical-event as_number slot (Withdraw p) told = tt
+canonical-event as_number slot session.Up form = tt
+canonical-event as_number slot (Announce p route) form = form.1.canonical
+canonical-event as_number slot (Withdraw p) form = tt
 
 canonical-seat : (as_number slot : ℕ) (events : List SessionEvent) (closed : Option Ending) → AllByRecursion (IsTold as_number) events
     → AllByRecursion IsCanonicalEvent (map (server_event slot) events ++ end_events slot closed)
-canonical-seat as_number slot [] None told = tt
-canonical-seat as_number slot [] (Some ending) told = (tt, tt)
-canonical-seat as_number slot (event ∷ events) closed told = (canonical-event as_number slot event told.0, canonical-seat as_number slot events closed told.1)
+canonical-seat as_number slot [] None form = tt
+canonical-seat as_number slot [] (Some ending) form = (tt, tt)
+canonical-seat as_number slot (event ∷ events) closed form = (canonical-event as_number slot event form.0, canonical-seat as_number slot events closed form.1)
 
 canonical-events : (as_number : ℕ) (seat : Option ℕ) (does : Doing) → AllByRecursion (IsTold as_number) does.events → AllByRecursion IsCanonicalEvent (seat_events seat does)
-canonical-events as_number None does told = tt
-canonical-events as_number (Some slot) does told = canonical-seat as_number slot does.events does.closed told
+canonical-events as_number None does form = tt
+canonical-events as_number (Some slot) does form = canonical-seat as_number slot does.events does.closed form
 
 -- ---- the sessions keep octets
 
@@ -93,85 +93,85 @@ keep-connection es number h = by_found (get_at same_number number es) (keep-at e
 
 -- ---- what sessions tell
 
-simple-telling : (roster : RosterOf) (input : Input) (es : Connections) → BringsOctets input → KeepOctets es → AllByRecursion (IsTelling roster.as_number) (map (simple_turn roster input) es)
-simple-telling roster input [] brings h = tt
-simple-telling roster input (e ∷ es) brings h = (
-  record { told = told-answer roster input e.1 h.0 brings; kept = kept-octets roster input e.1 h.0 brings },
-  simple-telling roster input es brings h.1,
+simple-in_form : (roster : RosterOf) (input : Input) (es : Connections) → BringsOctets input → KeepOctets es → AllByRecursion (IsTurnInForm roster.as_number) (map (simple_turn roster input) es)
+simple-in_form roster input [] brings h = tt
+simple-in_form roster input (e ∷ es) brings h = (
+  record { events = told-answer roster input e.1 h.0 brings; kept = kept-octets roster input e.1 h.0 brings },
+  simple-in_form roster input es brings h.1,
 )
 
 module _ (platform : Platform) (body : List ℕ) (small : AreOctets body) where
-  octets-telling : (e : ℕ × SessionState) → AreOctets e.1.kept → IsTelling platform.roster.as_number (octets_turn platform body e)
-  octets-telling e h = by_claim first.does.claim where
+  octets-in_form : (e : ℕ × SessionState) → AreOctets e.1.kept → IsTurnInForm platform.roster.as_number (octets_turn platform body e)
+  octets-in_form e h = by_claim first.does.claim where
     first : Answer
     first = answer platform.roster (Octets body platform.moment) e.1
 
-    told : AllByRecursion (IsTold platform.roster.as_number) first.does.events
-    told = told-answer platform.roster (Octets body platform.moment) e.1 h small
+    form : AllByRecursion (IsTold platform.roster.as_number) first.does.events
+    form = told-answer platform.roster (Octets body platform.moment) e.1 h small
 
     kept : AreOctets first.after.kept
     kept = kept-octets platform.roster (Octets body platform.moment) e.1 h small
 
-    by_claim : (claim : Option ℕ) → IsTelling platform.roster.as_number (claim_turn platform e.0 (seat_of e.1.phase) first claim)
-    by_claim None = record { told = told; kept = kept }
+    by_claim : (claim : Option ℕ) → IsTurnInForm platform.roster.as_number (claim_turn platform e.0 (seat_of e.1.phase) first claim)
+    by_claim None = record { events = form; kept = kept }
     by_claim (Some slot) =
         let free = is_free platform.connections slot in
         record {
-          told = all-append (IsTold platform.roster.as_number) first.does.events (answer platform.roster (Seat free platform.moment) first.after).does.events told
+          events = all-append (IsTold platform.roster.as_number) first.does.events (answer platform.roster (Seat free platform.moment) first.after).does.events form
               (told-answer platform.roster (Seat free platform.moment) first.after kept tt);
           kept = kept-octets platform.roster (Seat free platform.moment) first.after kept tt;
         }
 
-  heard-telling : (es : Connections) → KeepOctets es → AllByRecursion (IsTelling platform.roster.as_number) (map (octets_turn platform body) es)
-  heard-telling [] h = tt
-  heard-telling (e ∷ es) h = (octets-telling e h.0, heard-telling es h.1)
+  heard-in_form : (es : Connections) → KeepOctets es → AllByRecursion (IsTurnInForm platform.roster.as_number) (map (octets_turn platform body) es)
+  heard-in_form [] h = tt
+  heard-in_form (e ∷ es) h = (octets-in_form e h.0, heard-in_form es h.1)
 
-ready-telling : (platform : Platform) (number : ℕ) (found : Option ℕ) → AllByRecursion (IsTelling platform.roster.as_number) (ready_turn platform number found)
+ready-in_form : (platform : Platform) (number : ℕ) (found : Option ℕ) → AllByRecursion (IsTurnInForm platform.roster.as_number) (ready_turn platform number found)
 unfolding begun_established
-ready-telling platform number None = tt
-ready-telling platform number (Some slot) = at_test (is_free platform.connections slot) where
-  at_test : (b : Bool) → AllByRecursion (IsTelling platform.roster.as_number) (cond b (turn number (Some slot) (begun_established slot) ∷ []) (turn number None (stepped 0 [] seat_taken) ∷ []))
-  at_test true = (record { told = (tt, tt); kept = All-nil (λ o. o < 256) }, tt)
-  at_test false = (record { told = tt; kept = All-nil (λ o. o < 256) }, tt)
+ready-in_form platform number None = tt
+ready-in_form platform number (Some slot) = at_test (is_free platform.connections slot) where
+  at_test : (b : Bool) → AllByRecursion (IsTurnInForm platform.roster.as_number) (cond b (turn number (Some slot) (begun_established slot) ∷ []) (turn number None (stepped 0 [] seat_taken) ∷ []))
+  at_test true = (record { events = (tt, tt); kept = All-nil (λ o. o < 256) }, tt)
+  at_test false = (record { events = tt; kept = All-nil (λ o. o < 256) }, tt)
 
-begun-telling : (roster : RosterOf) (now number : ℕ) → IsTelling roster.as_number (turn number None (begun roster now))
+begun-in_form : (roster : RosterOf) (now number : ℕ) → IsTurnInForm roster.as_number (turn number None (begun roster now))
 unfolding begun
-begun-telling roster now number = record { told = tt; kept = All-nil (λ o. o < 256) }
+begun-in_form roster now number = record { events = tt; kept = All-nil (λ o. o < 256) }
 
-pub record-telling : (platform : Platform) (number : ℕ) (body : List ℕ) (k : Kind) → AreOctets body → KeepOctets platform.connections → AllByRecursion (IsTelling platform.roster.as_number) (turns_of platform number body k)
-record-telling platform number body kind.Ready small h = ready-telling platform number (slot_named platform.roster body)
-record-telling platform number body kind.Raw small h = (begun-telling platform.roster platform.moment number, tt)
-record-telling platform number body kind.Octets small h = heard-telling platform body small (connection_at platform.connections number) (keep-connection platform.connections number h)
-record-telling platform number body kind.Closed small h = simple-telling platform.roster End (connection_at platform.connections number) tt (keep-connection platform.connections number h)
-record-telling platform number body kind.Time small h = simple-telling platform.roster (Moment (moment_of body)) platform.connections tt h
-record-telling platform number body kind.Roster small h = tt
-record-telling platform number body kind.Links small h = tt
-record-telling platform number body kind.Slice small h = tt
-record-telling platform number body kind.Drain small h = tt
-record-telling platform number body kind.Finish small h = tt
+pub record-in_form : (platform : Platform) (number : ℕ) (body : List ℕ) (k : Kind) → AreOctets body → KeepOctets platform.connections → AllByRecursion (IsTurnInForm platform.roster.as_number) (turns_of platform number body k)
+record-in_form platform number body kind.Ready small h = ready-in_form platform number (slot_named platform.roster body)
+record-in_form platform number body kind.Raw small h = (begun-in_form platform.roster platform.moment number, tt)
+record-in_form platform number body kind.Octets small h = heard-in_form platform body small (connection_at platform.connections number) (keep-connection platform.connections number h)
+record-in_form platform number body kind.Closed small h = simple-in_form platform.roster End (connection_at platform.connections number) tt (keep-connection platform.connections number h)
+record-in_form platform number body kind.Time small h = simple-in_form platform.roster (Moment (moment_of body)) platform.connections tt h
+record-in_form platform number body kind.Roster small h = tt
+record-in_form platform number body kind.Links small h = tt
+record-in_form platform number body kind.Slice small h = tt
+record-in_form platform number body kind.Drain small h = tt
+record-in_form platform number body kind.Finish small h = tt
 
 -- ---- one turn
 
-pub seen-turn : (turn : Turn) (platform : Platform) (seen : PlatformOf) → IsSeen platform seen → IsTelling platform.roster.as_number turn → IsSeen (after_turn turn platform) (seen_after_turn turn seen)
-seen-turn turn platform seen h tells = record {
+pub seen-turn : (turn : Turn) (platform : Platform) (seen : PlatformOf) → IsSeen platform seen → IsTurnInForm platform.roster.as_number turn → IsSeen (after_turn turn platform) (seen_after_turn turn seen)
+seen-turn turn platform seen h forms = record {
   roster = h.roster;
   sessions = ap (set_at same_number turn.number (if_open turn.answer.after)) h.sessions;
-  moment = h.moment;
+  time = h.time;
   stream = h.stream;
   link_state = h.link_state;
   shards = subst (AreParts platform.roster (ribs_of (after_turn turn platform).server))
-      (λ i. shards_after_all (sym h.roster i) (told-events platform.roster turn.seat turn.answer.does tells.told i) seen.shards)
-      (parts-after_all platform.roster (turn_events turn) platform.server seen.shards h.shards (canonical-events platform.roster.as_number turn.seat turn.answer.does tells.told));
+      (λ i. shards_after_all (sym h.roster i) (form-events platform.roster turn.seat turn.answer.does forms.events i) seen.shards)
+      (parts-after_all platform.roster (turn_events turn) platform.server seen.shards h.shards (canonical-events platform.roster.as_number turn.seat turn.answer.does forms.events));
   updates = h.updates;
   rising = rising-all (domain_of platform.roster) (turn_events turn) platform.server h.rising;
   once = once-all (domain_of platform.roster) (turn_events turn) platform.server h.once;
-  octets = keep-turn turn.number turn.answer.after platform.connections tells.kept h.octets;
+  octets = keep-turn turn.number turn.answer.after platform.connections forms.kept h.octets;
 }
 
-pub seen-turns : (turns : List Turn) (platform : Platform) (seen : PlatformOf) → IsSeen platform seen → AllByRecursion (IsTelling platform.roster.as_number) turns
+pub seen-turns : (turns : List Turn) (platform : Platform) (seen : PlatformOf) → IsSeen platform seen → AllByRecursion (IsTurnInForm platform.roster.as_number) turns
     → IsSeen (after_turns turns platform) (seen_after_turns turns seen)
-seen-turns [] platform seen h tells = h
-seen-turns (turn ∷ turns) platform seen h tells = seen-turns turns (after_turn turn platform) (seen_after_turn turn seen) (seen-turn turn platform seen h tells.0) tells.1
+seen-turns [] platform seen h forms = h
+seen-turns (turn ∷ turns) platform seen h forms = seen-turns turns (after_turn turn platform) (seen_after_turn turn seen) (seen-turn turn platform seen h forms.0) forms.1
 
 -- ---- the turns of a record
 
@@ -207,14 +207,14 @@ no_server = record { tables = []; announcements = []; pending = []; edges = [] }
 pub turns-alike : (platform : Platform) (seen : PlatformOf) (item : FeedRecord) → IsSeen platform seen → turns_of_record seen item ≡ record_turns platform item
 unfolding no_server
 turns-alike platform seen item h =
-    (λ i. turns_of (record { roster = h.roster i; connections = h.sessions i; moment = h.moment i; stream = h.stream i; link_state = seen.link_state; server = no_server; updates = h.updates i }) item.source item.body item.kind)
+    (λ i. turns_of (record { roster = h.roster i; connections = h.sessions i; moment = h.time i; stream = h.stream i; link_state = seen.link_state; server = no_server; updates = h.updates i }) item.source item.body item.kind)
     ∙ same-turns platform (capped_stream platform.stream) seen.link_state no_server platform.updates item.source item.body item.kind
 
 seen-noted : (platform : Platform) (seen : PlatformOf) (item : FeedRecord) → IsSeen platform seen → IsSeen (noted item platform) (noted_at item seen)
 seen-noted platform seen item h = record {
   roster = h.roster;
   sessions = h.sessions;
-  moment = ap (λ m. cond (is_time item.kind) (moment_of item.body) m) h.moment;
+  time = ap (λ m. cond (is_time item.kind) (moment_of item.body) m) h.time;
   stream = h.stream;
   link_state = h.link_state;
   shards = h.shards;
@@ -228,7 +228,7 @@ pub seen-turns_act : (platform : Platform) (seen : PlatformOf) (item : FeedRecor
     → IsSeen (turns_act platform item).after (seen_after_turns (turns_of_record seen item) (noted_at item seen))
 seen-turns_act platform seen item h small =
     subst (λ turns. IsSeen (turns_act platform item).after (seen_after_turns turns (noted_at item seen))) (sym (turns-alike platform seen item h))
-    (seen-turns (record_turns platform item) (noted item platform) (noted_at item seen) (seen-noted platform seen item h) (record-telling platform item.source item.body item.kind small h.octets))
+    (seen-turns (record_turns platform item) (noted item platform) (noted_at item seen) (seen-noted platform seen item h) (record-in_form platform item.source item.body item.kind small h.octets))
 
 pub same-output : (platform : Platform) (seen : PlatformOf) (item : FeedRecord) → IsSeen platform seen → (turns_act platform item).out ≡ flat_map turn_output (turns_of_record seen item)
 same-output platform seen item h = ap (flat_map turn_output) (sym (turns-alike platform seen item h))

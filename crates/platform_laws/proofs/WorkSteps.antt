@@ -50,7 +50,7 @@ module _ (platform : Platform) (seen : PlatformOf) (h : IsSeen platform seen) wh
   seen-worked ps = record {
     roster = h.roster;
     sessions = h.sessions;
-    moment = h.moment;
+    time = h.time;
     stream = h.stream;
     link_state = h.link_state;
     shards = parts-worked ps;

@@ -20,11 +20,11 @@ use Rattle.platform_laws.specs.Platforms.{PlatformOf, capped_stream}
 
 -- from the one to the other lead the LSAs of these packets at a time
 abbrev pub LeadsByPackets : RosterOf → ℕ → List (List ℕ) → LinkState → LinkState → Type 0
-LeadsByPackets roster moment packets old new = (state : LinkState) → Holds old state → Holds new (after_packets roster.area moment packets state)
+LeadsByPackets roster time packets old new = (state : LinkState) → Holds old state → Holds new (after_packets roster.area time packets state)
 
 -- from the one to the other leads a time
 abbrev pub LeadsByTime : ℕ → LinkState → LinkState → Type 0
-LeadsByTime moment old new = (state : LinkState) → Holds old state → Holds new (aged moment state)
+LeadsByTime time old new = (state : LinkState) → Holds old state → Holds new (aged time state)
 
 -- the edges of a link state and the roster
 abbrev pub AreEdges : RosterOf → LinkState → List Edge → Type 0
@@ -40,8 +40,8 @@ packets_by Lost octets = []
 -- the link state and the edges are these after a record
 abbrev pub IsLinkedBy : PlatformOf → List ℕ → Kind → LinkState → List Edge → Type 0
 IsLinkedBy seen body kind.Links state edges =
-    LeadsByPackets seen.roster seen.moment (packets_by seen.stream body) seen.link_state state × AreEdges seen.roster state edges
-IsLinkedBy seen body kind.Time state edges = LeadsByTime seen.moment seen.link_state state × AreEdges seen.roster state edges
+    LeadsByPackets seen.roster seen.time (packets_by seen.stream body) seen.link_state state × AreEdges seen.roster state edges
+IsLinkedBy seen body kind.Time state edges = LeadsByTime seen.time seen.link_state state × AreEdges seen.roster state edges
 IsLinkedBy seen body kind state edges = Unit {0}
 
 -- each shard learns of the edges once

@@ -20,7 +20,7 @@ use Rattle.platform_laws.specs.Parts.{AreParts}
 pub record PlatformOf : Type 0 where
   pub roster : RosterOf
   pub sessions : Connections
-  pub moment : ℕ
+  pub time : ℕ
   pub stream : LinkStream
   pub link_state : LinkState
   pub shards : List (Ribs RouteFields)
@@ -45,7 +45,7 @@ KeepOctets connections = AllByRecursion (λ entry. AreOctets entry.1.kept) conne
 pub record IsSeen (platform : Platform) (seen : PlatformOf) : Type 0 where
   pub roster : seen.roster ≡ platform.roster
   pub sessions : seen.sessions ≡ platform.connections
-  pub moment : seen.moment ≡ platform.moment
+  pub time : seen.time ≡ platform.moment
   pub stream : seen.stream ≡ capped_stream platform.stream
   pub link_state : Holds seen.link_state platform.link_state
   pub shards : AreParts platform.roster (ribs_of platform.server) seen.shards

@@ -19,7 +19,7 @@ abbrev pub new_platform : RosterOf → PlatformOf
 new_platform roster = record {
   roster = roster;
   sessions = [];
-  moment = 0;
+  time = 0;
   stream = Reading [] 0;
   link_state = record { routers = [] };
   shards = replicate roster.shards (empty_ribs (rising_edges roster.links));

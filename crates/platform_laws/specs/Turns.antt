@@ -21,7 +21,7 @@ abbrev pub sessions_alone : PlatformOf → Platform
 sessions_alone seen = record {
   roster = seen.roster;
   connections = seen.sessions;
-  moment = seen.moment;
+  moment = seen.time;
   stream = seen.stream;
   link_state = seen.link_state;
   server = record { tables = []; announcements = []; pending = []; edges = [] };
@@ -63,11 +63,11 @@ seen_after_turns (turn ∷ turns) seen = seen_after_turns turns (seen_after_turn
 
 -- the platform at the time of a record
 abbrev pub noted_at : FeedRecord → PlatformOf → PlatformOf
-noted_at item seen = record seen { moment = if is_time item.kind then moment_of item.body else seen.moment }
+noted_at item seen = record seen { time = if is_time item.kind then moment_of item.body else seen.time }
 
--- ---- what a session tells
+-- ---- turns in form
 
 -- the events are in form, with routes that have the fields of their octets, and what is kept for later are octets
-pub record IsTelling (as_number : ℕ) (turn : Turn) : Type 0 where
-  pub told : AllByRecursion (IsTold as_number) turn.answer.does.events
+pub record IsTurnInForm (as_number : ℕ) (turn : Turn) : Type 0 where
+  pub events : AllByRecursion (IsTold as_number) turn.answer.does.events
   pub kept : AreOctets turn.answer.after.kept

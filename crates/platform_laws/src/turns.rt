@@ -7,24 +7,24 @@ ghost use Rattle.rcp_base.specs.Octets.{AreOctets};
 ghost use Rattle.feed_meaning.specs.Platform.{Platform};
 ghost use Rattle.feed_meaning.specs.SessionTurns.{Turn, after_turn, after_turns, turn_output, record_turns, turns_act};
 ghost use Rattle.platform_laws.specs.Platforms.{PlatformOf, IsSeen};
-ghost use Rattle.platform_laws.specs.Turns.{turns_of_record, seen_after_turn, seen_after_turns, noted_at, IsTelling};
+ghost use Rattle.platform_laws.specs.Turns.{turns_of_record, seen_after_turn, seen_after_turns, noted_at, IsTurnInForm};
 
 /// The turns of a record depend on the roster, the sessions and the time alone.
 pub fn turns_depend_on_sessions()
     ensures { (platform : Platform) (seen : PlatformOf) (item : FeedRecord) → IsSeen platform seen → turns_of_record seen item ≡ record_turns platform item }
 {}
 
-/// Each session tells events in form, and keeps octets for later, where the body of the record has octets.
-pub fn sessions_tell_routes_of_their_octets()
+/// Each turn has events in form and keeps octets for later, where the body of the record has octets.
+pub fn sessions_announce_routes_of_their_octets()
     ensures { (platform : Platform) (seen : PlatformOf) (item : FeedRecord) → IsSeen platform seen → AreOctets item.body
-        → AllByRecursion (IsTelling platform.roster.as_number) (record_turns platform item) }
+        → AllByRecursion (IsTurnInForm platform.roster.as_number) (record_turns platform item) }
 {}
 
 /// A turn gives its connection the session that it comes to, and the shards its events; and so for a list of turns.
 pub fn a_turn_acts_on_its_session_and_the_shards()
-    ensures one { (turn : Turn) (platform : Platform) (seen : PlatformOf) → IsSeen platform seen → IsTelling platform.roster.as_number turn
+    ensures one { (turn : Turn) (platform : Platform) (seen : PlatformOf) → IsSeen platform seen → IsTurnInForm platform.roster.as_number turn
         → IsSeen (after_turn turn platform) (seen_after_turn turn seen) }
-    ensures all { (turns : List Turn) (platform : Platform) (seen : PlatformOf) → IsSeen platform seen → AllByRecursion (IsTelling platform.roster.as_number) turns
+    ensures all { (turns : List Turn) (platform : Platform) (seen : PlatformOf) → IsSeen platform seen → AllByRecursion (IsTurnInForm platform.roster.as_number) turns
         → IsSeen (after_turns turns platform) (seen_after_turns turns seen) }
 {}
 
