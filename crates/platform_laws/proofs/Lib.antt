@@ -1,0 +1,17 @@
+pub mod EachValue
+pub mod PartEvents
+pub mod TableLemmas
+pub mod TurnSteps
+pub mod LinkSteps
+pub mod RisingLists
+pub mod ShardAnswers
+pub mod PendingLists
+pub mod Counts
+pub mod ShardWork
+pub mod CellSteps
+pub mod WorkSteps
+pub mod RecordSteps
+pub mod IdleSlots
+pub mod SoundShards
+pub mod AnswerLemmas
+pub mod DirtyCells
