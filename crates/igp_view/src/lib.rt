@@ -19,6 +19,7 @@
 //! ```
 #![tactic(auto)]
 
+mod following;
 mod igp;
 mod intake;
 mod laws;
