@@ -11,7 +11,6 @@ use Rattle.rcp_model.proofs.GraphLemmas.{routers_within}
 use Rattle.rcp_model.proofs.MemberLemmas.{any_member}
 use Rattle.cost_rows.proofs.EndLemmas.{map_member}
 use Rattle.roster.specs.Form.{InForm, IsLinkOf}
-use Rattle.roster.specs.Edges.{link_of}
 use Rattle.igp_view.specs.Igp.{AreRosterLinks}
 
 named : (members : List Member) (router : ℕ) → has_router members router ≡ true → Contains (map (λ (m : Member). m.router) members) router
@@ -26,7 +25,7 @@ roster_links roster form = record {
     form.members.few,
     length-map roster.members (λ (m : Member). m.router),
     routers_within roster.links (map (λ (m : Member). m.router) roster.members) (λ edge member.
-        let link = All-contains (λ (edge : Edge). IsLinkOf roster.members (link_of edge)) roster.links edge form.links member in
+        let link = All-contains (IsLinkOf roster.members) roster.links edge form.links member in
         (named roster.members edge.from link.from, named roster.members edge.to link.to)),
   );
   cheap = λ k d within. (form.links k d within).most;

@@ -10,7 +10,6 @@ use std::alloc::Global;
 use std::sync::Arc;
 use std::test::Fail;
 
-
 /// Four routers A, B, C and F.
 const ROSTER: &[u8] =
     b"as 65000\nid 10.0.0.254\nshards 1\nhold 90\narea 0.0.0.0\nrouter 10.0.0.1 10.0.0.1\nrouter 10.0.0.2 10.0.0.2\nrouter 10.0.0.3 10.0.0.3\nrouter 10.0.0.4 10.0.0.4\n";

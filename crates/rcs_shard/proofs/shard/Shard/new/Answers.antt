@@ -13,10 +13,9 @@ invariant_of-result c =
     let members_are : c.len-members.result ≡ length c.args.view.value.members = c.len-members.ensures.len ∙ ap length (sym c.requires.members) in
     let count_is : c.from-count.result ≡ length c.args.view.value.members = c.from-count.ensures ∙ members_are in
     let classes_are = whole c.find_classes.new.classes c.in_ok-classes.classes.items c.in_ok-classes.classes.len (c.find_classes.auto.classes ∙ c.deref_mut.ensures.len) in
-    let slots_of : ℕ → SlotsOf = λ n. record { members = n; inside = set_of.empty } in
-    (
+    let slots_of : ℕ → SlotsOf = λ n. record { members = n; inside = set_of.empty } in (
       joined_first c.args.number c.shards.result c.args.view.value c.in_ok-new.field-0 c.in_ok-new-2.field-0 c.new-3.result
-      c.shards.ensures.within.least (c.in_ok-new.ensures ∙ ap slots_of members_are) (c.in_ok-new-2.ensures ∙ ap no_bases members_are) c.new-3.ensures,
+          c.shards.ensures.within.least (c.in_ok-new.ensures ∙ ap slots_of members_are) (c.in_ok-new-2.ensures ∙ ap no_bases members_are) c.new-3.ensures,
       record {
         classes_are = subst (AreClasses c.args.view.value) (sym classes_are)
             (subst (λ (v : ViewOf). AreClasses v c.find_classes.new.classes) c.deref.ensures c.find_classes.ensures);

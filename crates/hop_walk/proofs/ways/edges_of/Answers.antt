@@ -1,0 +1,10 @@
+use Rattle.std.proofs.Common.{arith}
+use Rattle.hop_walk.proofs.StepLemmas.{took_edge, took_all}
+use Rattle.hop_walk.proofs.ways.edges_of.Goals as goal
+
+pub loop-edge-preserved : goal.loop-edge-preserved
+loop-edge-preserved g c =
+    took_edge (g.X.Costs.edges c.args.platform.now) c.loop-edge.edges.items c.push.new.self.items c.len.result c.in-Some.edge c.loop-edge.invariant (omega (arith, c.len.ensures, c.loop-edge.edges.ok.0)) c.in-Some.ensures c.in_ok-push.ensures.items
+
+pub returns : goal.returns
+returns g c = took_all (g.X.Costs.edges c.args.platform.now) c.loop-edge.edges.items c.len.result c.loop-edge.invariant (omega (arith, c.len.ensures, c.loop-edge.edges.ok.0)) c.in_default.ensures
