@@ -1,6 +1,6 @@
 //! Streams of link state, cut and timed in many ways, and the views over them.
 
-ghost use Rattle.std.specs.Prelude.{◌<◌};
+ghost use Rattle.std.specs.Prelude.{◌<◌, ◌≤◌, length};
 
 use crate::{IgpGot, IgpView};
 use cost_rows::View;
@@ -29,8 +29,8 @@ const C: u32 = 0x0a00_0003;
 /// A router ID and a metric.
 type Link = (u32, u16);
 
-/// A router, the age and the sequence number of its LSA, and its links.
-type Says = (u32, u16, i32, &'static [Link]);
+/// A router, and the age and the sequence number of its LSA.
+type Instance = (u32, u16, i32);
 
 /// A roster's text is short.
 fn roster_of(alloc: Global, text: &[u8]) -> Result<Roster, Fail> {
@@ -41,8 +41,8 @@ fn roster_of(alloc: Global, text: &[u8]) -> Result<Roster, Fail> {
 }
 
 /// The LSA of a router with point-to-point links.
-fn lsa(alloc: Global, says: (u32, u16, i32, &[Link])) -> Result<Lsa, NoMemory> {
-    let (router, age, sequence, links) = says;
+fn lsa(alloc: Global, instance: Instance, links: &[Link]) -> Result<Lsa, NoMemory> {
+    let (router, age, sequence) = instance;
     let links = links
         .iter()
         .map(|link| LsaLink {
@@ -65,9 +65,10 @@ fn add_update(
     alloc: Global,
     stream: &mut Vec<u8>,
     area: u8,
-    says: (u32, u16, i32, &[Link]),
+    instance: Instance,
+    links: &[Link],
 ) -> Result<(), Fail> {
-    let lsa = lsa(alloc, says)?;
+    let lsa = lsa(alloc, instance, links)?;
     if lsa.age > 3600 || lsa.links.len() > 5459 {
         return Err("too much for an LSA".into());
     }
@@ -82,12 +83,18 @@ fn add_update(
     Ok(())
 }
 
-/// A stream of one packet for each LSA, of area 0.
-fn stream_of(alloc: Global, says: &[Says]) -> Result<Vec<u8>, Fail> {
+/// A stream of one packet of area 0, with the LSA of a router.
+fn update(alloc: Global, instance: Instance, links: &[Link]) -> Result<Vec<u8>, Fail> {
     let mut stream = Vec::new(alloc);
-    for one in says {
-        add_update(alloc, &mut stream, 0, *one)?;
-    }
+    add_update(alloc, &mut stream, 0, instance, links)?;
+    Ok(stream)
+}
+
+/// Three routers in a row, of which the last lists these links.
+fn row(alloc: Global, last: &[Link]) -> Result<Vec<u8>, Fail> {
+    let mut stream = update(alloc, (A, 1, 1), &[(B, 10)])?;
+    add_update(alloc, &mut stream, 0, (B, 1, 1), &[(A, 10), (C, 10)])?;
+    add_update(alloc, &mut stream, 0, (C, 1, 1), last)?;
     Ok(stream)
 }
 
@@ -96,53 +103,52 @@ fn costs_from_first(view: &Arc<View>) -> [Option<u32>; 3] {
     [0, 1, 2].map(|to| view.cost(Slot(0), Slot(to)))
 }
 
+/// How many LSAs two pieces of a stream bring, and the costs from the first member after both.
+fn in_two_pieces(
+    alloc: Global,
+    roster: &Roster,
+    stream: &[u8],
+    cut: usize,
+) -> Result<(u64, [Option<u32>; 3]), Fail>
+    requires { cut ≤ length stream.now }
+{
+    let (front, back) = stream.split_at(cut);
+    let mut igp = IgpView::new(alloc, roster)?;
+    let first = igp.octets(front, 0)?;
+    let second = igp.octets(back, 0)?;
+    let installed = first.installed.saturating_add(second.installed);
+    Ok((installed, costs_from_first(&igp.view()?)))
+}
+
 #[test]
 fn any_cut_leaves_one_view(rt: HostRuntime) -> Result<(), Fail> {
     let alloc = rt.alloc();
     let roster = roster_of(alloc, BARE)?;
-    let stream = stream_of(
-        alloc,
-        &[
-            (A, 1, 1, &[(B, 10)]),
-            (B, 1, 1, &[(A, 10), (C, 10)]),
-            (C, 1, 1, &[(B, 10)]),
-        ],
-    )?;
-    for cut in 0..stream.len() + 1 {
-        let (front, back) = stream.split_at(cut);
-        let mut igp = IgpView::new(alloc, &roster)?;
-        let first = igp.octets(front, 0)?;
-        let second = igp.octets(back, 0)?;
-        assert_eq!(rt; first.installed.saturating_add(second.installed), 3);
-        assert_eq!(rt; (first.left_out, second.left_out), (0, 0));
-        assert_eq!(rt;
-            costs_from_first(&igp.view()?),
-            [Some(0), Some(10), Some(20)]
-        );
+    let stream = row(alloc, &[(B, 10)])?;
+    for cut in 0..stream.len() {
+        let got = in_two_pieces(alloc, &roster, stream.as_slice(), cut)?;
+        assert_eq!(rt; got, (3, [Some(0), Some(10), Some(20)]), "cut at {cut}");
     }
     Ok(())
 }
 
-/// The view after these LSAs, which come as one piece at time 0.
-fn viewed(alloc: Global, text: &[u8], says: &[Says]) -> Result<Arc<View>, Fail> {
+/// The costs from the first member of a roster after a piece.
+fn viewed(alloc: Global, text: &[u8], stream: &[u8]) -> Result<[Option<u32>; 3], Fail> {
     let roster = roster_of(alloc, text)?;
-    let stream = stream_of(alloc, says)?;
     let mut igp = IgpView::new(alloc, &roster)?;
-    let _got = igp.octets(&stream, 0)?;
-    Ok(igp.view()?)
+    let _got = igp.octets(stream, 0)?;
+    Ok(costs_from_first(&igp.view()?))
 }
 
 #[test]
 fn a_router_that_lists_no_link_is_alone(rt: HostRuntime) -> Result<(), Fail> {
-    let says: [Says; 3] = [
-        (A, 1, 1, &[(B, 10)]),
-        (B, 1, 1, &[(A, 10), (C, 10)]),
-        (C, 1, 1, &[]),
-    ];
-    let view = viewed(rt.alloc(), BARE, &says)?;
-    assert_eq!(rt; costs_from_first(&view), [Some(0), Some(10), None]);
-    let linked = viewed(rt.alloc(), LINKED, &says)?;
-    assert_eq!(rt; costs_from_first(&linked), [Some(0), Some(10), Some(7)]);
+    let alloc = rt.alloc();
+    let stream = row(alloc, &[])?;
+    assert_eq!(rt; viewed(alloc, BARE, &stream)?, [Some(0), Some(10), None]);
+    assert_eq!(rt;
+        viewed(alloc, LINKED, &stream)?,
+        [Some(0), Some(10), Some(7)]
+    );
     Ok(())
 }
 
@@ -165,7 +171,7 @@ const NOTHING: IgpGot = IgpGot {
 fn the_place_of_lost_framing_is_answered_once(rt: HostRuntime) -> Result<(), Fail> {
     let alloc = rt.alloc();
     let mut igp = IgpView::new(alloc, &roster_of(alloc, BARE)?)?;
-    let update = stream_of(alloc, &[(A, 1, 1, &[(B, 10)])])?;
+    let update = update(alloc, (A, 1, 1), &[(B, 10)])?;
     assert_eq!(rt; igp.octets(&HELLO, 0)?, NOTHING);
     assert_eq!(rt; igp.octets(&HELLO, 0)?, NOTHING);
     let lost = igp.octets(&OTHER_VERSION, 0)?;
@@ -193,7 +199,7 @@ fn the_place_of_lost_framing_is_answered_once(rt: HostRuntime) -> Result<(), Fai
 fn a_restart_drops_the_front_of_a_packet(rt: HostRuntime) -> Result<(), Fail> {
     let alloc = rt.alloc();
     let mut igp = IgpView::new(alloc, &roster_of(alloc, BARE)?)?;
-    let update = stream_of(alloc, &[(A, 1, 1, &[(B, 10)])])?;
+    let update = update(alloc, (A, 1, 1), &[(B, 10)])?;
     let (front, _) = update.split_at(update.len() / 2);
     assert_eq!(rt; igp.octets(front, 0)?, NOTHING);
     igp.restart();
@@ -208,27 +214,32 @@ fn a_restart_drops_the_front_of_a_packet(rt: HostRuntime) -> Result<(), Fail> {
     Ok(())
 }
 
+/// Whether the edges change by a time, or by a piece without octets at that time where `by_piece` is true.
+fn changed_at(igp: &mut IgpView, by_piece: bool, now: u64) -> Result<bool, Fail> {
+    let before = igp.changes();
+    if by_piece {
+        let _none = igp.octets(&[], now)?;
+    } else {
+        igp.clock(now)?;
+    }
+    Ok(igp.changes() != before)
+}
+
 #[test]
 fn instances_age_out(rt: HostRuntime) -> Result<(), Fail> {
     let alloc = rt.alloc();
-    let roster = roster_of(alloc, BARE)?;
-    let says: [Says; 2] = [(A, 3590, 1, &[(B, 10)]), (B, 1, 1, &[(A, 10)])];
-    let stream = stream_of(alloc, &says)?;
-    let mut igp = IgpView::new(alloc, &roster)?;
+    let mut stream = update(alloc, (A, 3590, 1), &[(B, 10)])?;
+    add_update(alloc, &mut stream, 0, (B, 1, 1), &[(A, 10)])?;
+    let mut igp = IgpView::new(alloc, &roster_of(alloc, BARE)?)?;
     let _got = igp.octets(&stream, 0)?;
     assert_eq!(rt; igp.changes(), 1);
-    igp.clock(9)?;
-    assert_eq!(rt; igp.changes(), 1);
-    igp.clock(10)?;
-    assert_eq!(rt; igp.changes(), 2);
-    assert_eq!(rt; costs_from_first(&igp.view()?), [Some(0), None, None]);
-    // a piece at an earlier time comes at the latest: the instance is young again, and ages from then on
+    assert!(rt; !changed_at(&mut igp, false, 9)?);
+    assert!(rt; changed_at(&mut igp, false, 10)?);
+    // a piece of an earlier time comes at the latest, from which the instance ages on
     let _got = igp.octets(&stream, 3)?;
     assert_eq!(rt; igp.changes(), 3);
-    let _none = igp.octets(&[], 19)?;
-    assert_eq!(rt; igp.changes(), 3);
-    let _none = igp.octets(&[], 20)?;
-    assert_eq!(rt; igp.changes(), 4);
+    assert!(rt; !changed_at(&mut igp, true, 19)?);
+    assert!(rt; changed_at(&mut igp, true, 20)?);
     Ok(())
 }
 
@@ -237,9 +248,9 @@ fn what_is_faulty_is_left_out_and_another_area_is_skipped(rt: HostRuntime) -> Re
     let alloc = rt.alloc();
     let mut igp = IgpView::new(alloc, &roster_of(alloc, BARE)?)?;
     let mut stream = Vec::new(alloc);
-    add_update(alloc, &mut stream, 1, (A, 1, 1, &[(B, 10)]))?;
+    add_update(alloc, &mut stream, 1, (A, 1, 1), &[(B, 10)])?;
     assert_eq!(rt; igp.octets(&stream, 0)?, NOTHING);
-    let mut faulty = stream_of(alloc, &[(A, 1, 1, &[(B, 10)])])?;
+    let mut faulty = update(alloc, (A, 1, 1), &[(B, 10)])?;
     let _ = faulty.pop();
     faulty.push(11)?;
     let got = igp.octets(&faulty, 0)?;
@@ -251,7 +262,7 @@ fn what_is_faulty_is_left_out_and_another_area_is_skipped(rt: HostRuntime) -> Re
         }
     );
     // an update that counts two LSAs and has one
-    let mut short = stream_of(alloc, &[(A, 1, 1, &[(B, 10)])])?;
+    let mut short = update(alloc, (A, 1, 1), &[(B, 10)])?;
     if short.len() > 27 {
         short[27] = 2;
     }
@@ -267,26 +278,22 @@ fn what_is_faulty_is_left_out_and_another_area_is_skipped(rt: HostRuntime) -> Re
     Ok(())
 }
 
+/// Two routers that list each other, 2,046 that list none, and one that lists the first.
+fn many_routers(alloc: Global) -> Result<Vec<u8>, Fail> {
+    let mut stream = update(alloc, (A, 1, 1), &[(B, 10), (C, 10)])?;
+    add_update(alloc, &mut stream, 0, (B, 1, 1), &[(A, 10)])?;
+    for other in 0..2046 {
+        add_update(alloc, &mut stream, 0, (0x0b00_0000 + other, 1, 1), &[])?;
+    }
+    add_update(alloc, &mut stream, 0, (C, 1, 1), &[(A, 10)])?;
+    Ok(stream)
+}
+
 #[test]
 fn the_2049th_router_has_no_instance(rt: HostRuntime) -> Result<(), Fail> {
     let alloc = rt.alloc();
-    let mut stream = Vec::new(alloc);
-    add_update(alloc, &mut stream, 0, (A, 1, 1, &[(B, 10), (C, 10)]))?;
-    add_update(alloc, &mut stream, 0, (B, 1, 1, &[(A, 10)]))?;
-    for other in 0..2046 {
-        add_update(alloc, &mut stream, 0, (0x0b00_0000 + other, 1, 1, &[]))?;
-    }
-    add_update(alloc, &mut stream, 0, (C, 1, 1, &[(A, 10)]))?;
-    let mut igp = IgpView::new(alloc, &roster_of(alloc, BARE)?)?;
-    let got = igp.octets(&stream, 0)?;
-    assert_eq!(rt;
-        got,
-        IgpGot {
-            installed: 2049,
-            ..NOTHING
-        }
-    );
-    assert_eq!(rt; costs_from_first(&igp.view()?), [Some(0), Some(10), None]);
+    let stream = many_routers(alloc)?;
+    assert_eq!(rt; viewed(alloc, BARE, &stream)?, [Some(0), Some(10), None]);
     Ok(())
 }
 
@@ -370,7 +377,7 @@ fn piece_of(alloc: Global, sequence: i32, metrics: &Metrics) -> Result<Vec<u8>, 
                 links.push((*to, *metric))?;
             }
         }
-        add_update(alloc, &mut stream, 0, (from, 1, sequence, &links))?;
+        add_update(alloc, &mut stream, 0, (from, 1, sequence), &links)?;
         from = from.wrapping_add(1);
     }
     Ok(stream)
