@@ -40,7 +40,7 @@ pub cost_none_from : (edges : List Edge) (members : List Member) (from to : ℕ)
 unfolding slot_cost
 cost_none_from edges members from to none = ap (λ a. cost_between edges a (router_at members to)) none
 
-cost_none_to : (edges : List Edge) (a : Option ℕ) → cost_between edges a None ≡ None
+pub cost_none_to : (edges : List Edge) (a : Option ℕ) → cost_between edges a None ≡ None
 cost_none_to edges None = refl
 cost_none_to edges (Some u) = refl
 

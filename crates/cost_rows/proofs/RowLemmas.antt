@@ -27,7 +27,7 @@ rising-head name names rising n member = subst (λ k. name < k) member.2 (rising
 rising-tail : (name : ℕ) (names : List ℕ) → AllPairs (λ a b. a < b) (name ∷ names) → AllPairs (λ a b. a < b) names
 rising-tail name names rising i j d less within = rising (suc i) (suc j) d (omega arith) (omega arith)
 
-reached_rise : (names : List ℕ) (least : List (Option ℕ)) → AllPairs (λ a b. a < b) names → AllPairs (λ (p q : ℕ × ℕ). p.0 < q.0) (reached names least)
+pub reached_rise : (names : List ℕ) (least : List (Option ℕ)) → AllPairs (λ a b. a < b) names → AllPairs (λ (p q : ℕ × ℕ). p.0 < q.0) (reached names least)
 reached_rise [] least rising = λ i j d less within. absurd (omega arith)
 reached_rise (name ∷ names) [] rising = λ i j d less within. absurd (omega arith)
 reached_rise (name ∷ names) (None ∷ least) rising = reached_rise names least (rising-tail name names rising)
@@ -42,7 +42,7 @@ same-back m n = at_test (n == m) (eqb-true n m) (λ same. eq-eqb n m same) where
   at_test true is back = eq-eqb m n (sym (is refl))
   at_test false is back = ne_eqb m n (λ same. false≢true (back (sym same)))
 
-get-reached : (names : List ℕ) (least : List (Option ℕ)) (v : ℕ) → AllPairs (λ a b. a < b) names → get_at same_number v (reached names least) ≡ found_at names least v
+pub get-reached : (names : List ℕ) (least : List (Option ℕ)) (v : ℕ) → AllPairs (λ a b. a < b) names → get_at same_number v (reached names least) ≡ found_at names least v
 get-reached [] least v rising = refl
 get-reached (name ∷ names) [] v rising = refl
 get-reached (name ∷ names) (None ∷ least) v rising = at_test (name == v) (eqb-true name v) (get-reached names least v (rising-tail name names rising)) where

@@ -39,7 +39,7 @@ pub use names::{names_of, place_of};
 pub use packed::PackedCost;
 pub use places::{Places, places_in};
 pub use row::Row;
-pub use search::{costs, least_costs, least_costs_by};
+pub use search::{costs, least_costs, least_costs_by, pairs};
 pub use view::View;
 
 #[cfg(test)]

@@ -182,8 +182,8 @@ pub fn row(
     pairs(alloc, names, least.as_slice())
 }
 
-/// The pairs of the routers that are reached.
-fn pairs(
+/// The pairs of the routers that are reached, by names and the costs beside them, in the order of the names.
+pub fn pairs(
     alloc: Global,
     names: &[RouterId],
     least: &[Option<u32>],

@@ -17,7 +17,7 @@ numbers-equal a b c d e f = grind (arith, nat_tests)
 itself : (a b c : ℕ) → (a == a && (b == b && c == c)) ≡ true
 itself a b c = grind (arith, nat_tests)
 
-decided : (a b : Edge) → (equal_edge a b ≡ true → a ≡ b) × (a ≡ b → equal_edge a b ≡ true)
+pub decided : (a b : Edge) → (equal_edge a b ≡ true → a ≡ b) × (a ≡ b → equal_edge a b ≡ true)
 decided a b = (
   λ equal. same-edge a b (sym (numbers-equal a.from a.to a.cost b.from b.to b.cost) ∙ equal),
   λ same. subst (λ (e : Edge). equal_edge a e ≡ true) same (itself a.from a.to a.cost),

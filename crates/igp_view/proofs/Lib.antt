@@ -1,4 +1,5 @@
 mod EdgeLemmas
+mod FollowingLemmas
 mod StreamLemmas
 mod TakingLemmas
 mod YoungLemmas

@@ -1,3 +1,4 @@
 pub mod Igp
 pub mod Streams
 pub mod Reading
+pub mod Following

@@ -10,13 +10,14 @@ ghost use Rattle.igp_view.specs.Streams.{stream_after, lost_by, lsas_by, state_a
 ghost use Rattle.igp_view.specs.Igp.{IsOfSameRoster, CountsChange};
 
 use crate::intake::take_piece;
-use crate::views::{first_view, links_of, members_of, renew};
+use crate::views::{first_engine, first_view, links_of, members_of, renew};
 use cost_rows::View;
 use lsdb::Lsdb;
 use ospf_packet::Framer;
 use rcp_base::NoMemory;
 use rcp_model::Edge;
 use roster::Roster;
+use spf_incr::TreeEngine;
 use std::alloc::Global;
 use std::marker::Model;
 use std::sync::Arc;
@@ -42,6 +43,7 @@ pub struct IgpView {
     is_lost: bool,
     lsdb: Lsdb,
     view: Arc<View>,
+    engine: TreeEngine,
     changes: u64,
     is_spent: bool,
 }
@@ -51,12 +53,13 @@ impl Model for IgpView {
     ghost use Rattle.rcp_base.specs.OspfPackets.{part, front_of};
     ghost use Rattle.igp_view.specs.Streams.{stream_of};
     ghost use Rattle.igp_view.specs.Igp.{IgpOf, AreEdgesOf, AreRosterLinks};
+    ghost use Rattle.igp_view.specs.Following.{IsEngineOf};
 
     ghost Value = { IgpOf };
 
     ghost view = { λ i. record { area = i.area; members = i.view.value.members; links = i.links.items; database = i.lsdb; stream = stream_of i.is_lost i.framer; edges = i.view.value.edges; changes = i.changes; spent = i.is_spent } };
 
-    ghost invariant = { λ i. AreRosterLinks i.links.items × (i.is_spent ≡ false → (i.is_lost ≡ false → front_of i.framer.held ≡ part) × AreEdgesOf i.lsdb.state i.links.items i.view.value.edges) };
+    ghost invariant = { λ i. AreRosterLinks i.links.items × (i.is_spent ≡ false → (i.is_lost ≡ false → front_of i.framer.held ≡ part) × AreEdgesOf i.lsdb.state i.links.items i.view.value.edges × IsEngineOf i.engine i.view.value) };
 }
 
 impl IgpView {
@@ -69,6 +72,7 @@ impl IgpView {
         let members = members_of(alloc, roster)?;
         let lsdb = Lsdb::new(alloc);
         let view = first_view(alloc, members.as_slice(), &lsdb, links.as_slice())?;
+        let engine = first_engine(alloc, &view)?;
         Ok(IgpView {
             alloc,
             area: roster.area(),
@@ -77,6 +81,7 @@ impl IgpView {
             is_lost: false,
             lsdb,
             view,
+            engine,
             changes: 0,
             is_spent: false,
         })
@@ -118,6 +123,7 @@ impl IgpView {
             self.alloc,
             may_change(went, &got),
             &mut self.view,
+            &mut self.engine,
             &mut self.changes,
             &self.lsdb,
             &self.links,
@@ -149,6 +155,7 @@ impl IgpView {
             self.alloc,
             went,
             &mut self.view,
+            &mut self.engine,
             &mut self.changes,
             &self.lsdb,
             &self.links,

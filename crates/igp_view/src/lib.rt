@@ -7,7 +7,9 @@
 //!   are those of the link state and of the roster's links.
 //! - However octets that come at one time are cut into pieces, the link state is the same, and so is the place where the framing
 //!   is lost (`any_cut`).
-//! - A view is built where edges changed, and only there: `changes` counts these, and `view` hands out the last one.
+//! - Another view takes its place where edges changed, and only there: `changes` counts these, and `view` hands out the last one.
+//!   Few changed edges are followed one by one, and what a member reaches at the same costs is shared with the view before; where
+//!   many changed, all is searched anew.
 //! - After `NoMemory` an `IgpView` is spent: each later call answers `NoMemory`.
 //!
 //! ```text
@@ -19,6 +21,7 @@
 //! ```
 #![tactic(auto)]
 
+mod following;
 mod igp;
 mod intake;
 mod laws;

@@ -398,3 +398,29 @@ fn views_have_the_costs_of_the_plain_definition(rt: HostRuntime) -> Result<(), F
     }
     Ok(())
 }
+
+/// A view as it is built over its graph.
+fn built(alloc: Global, view: &View) -> Result<Arc<View>, NoMemory> {
+    View::build(alloc, view.members(), view.graph().try_clone()?)
+}
+
+#[test]
+fn views_that_follow_are_as_if_built(rt: HostRuntime) -> Result<(), Fail> {
+    let alloc = rt.alloc();
+    let mut seed = 24;
+    let mut igp = IgpView::new(alloc, &roster_of(alloc, LINKED)?)?;
+    for round in 0..60 {
+        let piece = piece_of(alloc, round, &random_metrics(&mut seed))?;
+        let _got = igp.octets(&piece, 0)?;
+        let view = igp.view()?;
+        let anew = built(alloc, &view)?;
+        for slot in [0, 1, 2] {
+            assert_eq!(rt;
+                view.ranked(Slot(slot)),
+                anew.ranked(Slot(slot)),
+                "in round {round}"
+            );
+        }
+    }
+    Ok(())
+}

@@ -3,12 +3,15 @@
 ghost use Rattle.std.specs.Prelude.{◌≡◌, false, IfOk, OnOk};
 ghost use Rattle.rcp_model.specs.Graphs.{AreMembers};
 ghost use Rattle.igp_view.specs.Igp.{AreEdgesOf, AreRosterLinks, one_more};
+ghost use Rattle.igp_view.specs.Following.{IsEngineOf};
 
+use crate::following::bring_over;
 use cost_rows::{Graph, View};
 use lsdb::Lsdb;
 use rcp_base::{Member, NoMemory, Slot};
 use rcp_model::Edge;
 use roster::Roster;
+use spf_incr::TreeEngine;
 use std::alloc::Global;
 use std::sync::Arc;
 
@@ -42,6 +45,13 @@ fn graph_of(lsdb: &Lsdb, links: &[Edge]) -> Result<Graph, NoMemory>
     Ok(Graph::from_edges(edges))
 }
 
+/// The engine of a view.
+pub fn first_engine(alloc: Global, view: &Arc<View>) -> Result<TreeEngine, NoMemory>
+    ensures { IfOk result (λ engine. IsEngineOf engine view.now.value) }
+{
+    TreeEngine::new(alloc, view.members(), view.graph())
+}
+
 /// The view of these edges for members.
 pub fn first_view(
     alloc: Global,
@@ -58,19 +68,22 @@ pub fn first_view(
     View::build(alloc, members, graph)
 }
 
-/// Builds another view in the place of one that may be stale, where the edges are others, and counts that. `NoMemory` leaves both as
-/// they were.
+/// Brings a view that may be stale, and its engine, over the edges of a database and a roster's links, where they are others, and counts
+/// that. After `NoMemory` they are of no use.
 pub fn renew(
     alloc: Global,
     is_stale: bool,
     view: &mut Arc<View>,
+    engine: &mut TreeEngine,
     changes: &mut u64,
     lsdb: &Lsdb,
     links: &[Edge],
 ) -> Result<(), NoMemory>
     requires links { AreRosterLinks links.now }
     requires fresh { is_stale ≡ false → AreEdgesOf lsdb.now.state links.now view.old.value.edges }
+    requires engine { IsEngineOf engine.old view.old.value }
     ensures edges { OnOk result (AreEdgesOf lsdb.now.state links.now view.new.value.edges) }
+    ensures engine { OnOk result (IsEngineOf engine.new view.new.value) }
     ensures members { view.new.value.members ≡ view.old.value.members }
     ensures same { OnOk result (view.new.value.edges ≡ view.old.value.edges → changes.new ≡ changes.old) }
     ensures other { OnOk result ((view.new.value.edges ≡ view.old.value.edges → ⊥) → changes.new ≡ one_more changes.old) }
@@ -82,8 +95,7 @@ pub fn renew(
     if graph.edges() == view.graph().edges() {
         return Ok(());
     }
-    let other = View::build(alloc, view.members(), graph)?;
-    *view = other;
+    bring_over(alloc, view, engine, graph)?;
     *changes = changes.saturating_add(1);
     Ok(())
 }

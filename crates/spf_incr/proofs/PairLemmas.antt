@@ -15,13 +15,13 @@ use Rattle.cost_rows.proofs.NameLemmas.{apart, apart-head, apart-tail}
 use Rattle.spf_incr.specs.Changes.{changed_pairs}
 use Rattle.spf_incr.specs.Tables.{row_at, costs_by}
 
-same-cost : (a b : Option ℕ) → same_cost a b ≡ true → a ≡ b
+pub same-cost : (a b : Option ℕ) → same_cost a b ≡ true → a ≡ b
 same-cost None None h = refl
 same-cost None (Some n) h = absurd (false≢true h)
 same-cost (Some m) None h = absurd (false≢true h)
 same-cost (Some m) (Some n) h = ap Some (eqb-true m n h)
 
-other-cost : (a b : Option ℕ) → same_cost a b ≡ false → a ≢ b
+pub other-cost : (a b : Option ℕ) → same_cost a b ≡ false → a ≢ b
 other-cost None None h same = false≢true (sym h)
 other-cost None (Some n) h same = cc
 other-cost (Some m) None h same = cc

@@ -1,10 +1,12 @@
 //! The two engines.
 
-ghost use Rattle.std.specs.Prelude.{◌≡◌, IfOk};
+ghost use Rattle.std.specs.Prelude.{◌≡◌, ℕ, IfOk};
+ghost use Rattle.rcp_base.specs.Maps.{get_at};
+ghost use Rattle.rcp_model.specs.LinkState.{same_number};
 ghost use Rattle.rcp_model.specs.Graphs.{AreMembers};
 
 use crate::table::Table;
-use cost_rows::{CostEngine, Graph};
+use cost_rows::{CostEngine, Graph, Row};
 use rcp_base::{Member, NoMemory, RouterId, Slot};
 use rcp_model::Edge;
 use std::alloc::Global;
@@ -86,7 +88,7 @@ impl Model for TreeEngine {
 }
 
 impl TreeEngine {
-    ghost use Rattle.spf_incr.specs.Tables.{IsEngineOver};
+    ghost use Rattle.spf_incr.specs.Tables.{IsEngineOver, engine_costs};
 
     /// The engine over a graph, for at most 512 members, whose routers and BGP Identifiers are distinct.
     ///
@@ -99,6 +101,15 @@ impl TreeEngine {
     {
         let table = Table::new(alloc, members, graph)?;
         Ok(TreeEngine { table })
+    }
+
+    /// The costs from a slot as a row: empty where the engine is spent, and where the slot is past the last member's.
+    ///
+    /// `NoMemory` comes where there was no room for it. It takes a step for each router.
+    pub fn row(&self, alloc: Global, from: Slot) -> Result<Row, NoMemory>
+        ensures { IfOk result (λ row. (router : ℕ) → get_at same_number router row ≡ engine_costs self.now from router) }
+    {
+        self.table.row(alloc, from)
     }
 }
 

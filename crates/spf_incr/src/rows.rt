@@ -1,9 +1,11 @@
 //! Rows: the least costs from one router, each at the place of the router that it leads to, as one edge comes or goes.
 
-ghost use Rattle.std.specs.Prelude.{◌≡◌, ◌<◌, ◌≤◌, ◌++◌, length, Contains, List, Some, IfOk, OnOk};
+ghost use Rattle.std.specs.Prelude.{◌≡◌, ℕ, ◌<◌, ◌≤◌, ◌++◌, length, Contains, List, Some, IfOk, OnOk};
 ghost use Rattle.std.specs.List.Sorted.{IsStrictlyIncreasing};
 ghost use Rattle.std.specs.Bool.{OnFalse};
 ghost use Rattle.rcp_base.specs.declared.names.Edge.{Edge};
+ghost use Rattle.rcp_base.specs.Maps.{get_at};
+ghost use Rattle.rcp_model.specs.LinkState.{same_number};
 ghost use Rattle.rcp_model.specs.Graphs.{IsGraph};
 ghost use Rattle.rcp_model.specs.Costs.{lesser};
 ghost use Rattle.rcp_model.specs.RouteServer.{same_cost};
@@ -11,7 +13,7 @@ ghost use Rattle.cost_rows.specs.Search.{AreIndexed, IsFound, found_at};
 ghost use Rattle.spf_incr.specs.Changes.{IsTight, IsNotLower, IsStill, IsUntouched, IsWay, IsHopWithin, at_place, sum_over, lowered, changed_pair, changed_pairs};
 
 use crate::way::{Hop, Way};
-use cost_rows::{Graph, Places, least_costs_by};
+use cost_rows::{Graph, Places, Row, least_costs_by, pairs};
 use rcp_base::{NoMemory, RouterId, Slot};
 use std::alloc::Global;
 
@@ -25,6 +27,15 @@ pub fn cost_in(names: &[RouterId], row: &[Option<u32>], router: RouterId) -> Opt
         Ok(place) => row[place],
         Err(_) => None,
     }
+}
+
+/// The row of the names that have a cost beside them.
+pub fn row_of(alloc: Global, names: &[RouterId], costs: &[Option<u32>]) -> Result<Row, NoMemory>
+    requires { IsStrictlyIncreasing names.now }
+    ensures { IfOk result (λ row. (router : ℕ) → get_at same_number router row ≡ found_at names.now costs.now router) }
+{
+    let pairs = pairs(alloc, names, costs)?;
+    Ok(Row::from_pairs(pairs))
 }
 
 /// Whether an edge leads to its end at the least cost of all.

@@ -5,6 +5,8 @@ ghost use Rattle.std.specs.List.Sorted.{IsStrictlyIncreasing};
 ghost use Rattle.std.specs.Bool.{OnTrue, OnFalse};
 ghost use Rattle.rcp_base.specs.declared.names.Member.{Member};
 ghost use Rattle.rcp_base.specs.declared.names.Edge.{Edge};
+ghost use Rattle.rcp_base.specs.Maps.{get_at};
+ghost use Rattle.rcp_model.specs.LinkState.{same_number};
 ghost use Rattle.rcp_model.specs.RouteServer.{router_at};
 ghost use Rattle.rcp_model.specs.Graphs.{AreMembers, IsGraph};
 ghost use Rattle.cost_rows.specs.Search.{AreNames, AreIndexed, IsFound, found_at};
@@ -13,9 +15,9 @@ ghost use Rattle.spf_incr.specs.declared.way.Hop.{Hop};
 ghost use Rattle.spf_incr.specs.Changes.{IsHop, IsStill, IsWay};
 ghost use Rattle.spf_incr.specs.Tables.{AreRows, row_at, costs_by};
 
-use crate::rows::{cost_in, follow, may_change};
+use crate::rows::{cost_in, follow, may_change, row_of};
 use crate::way::{Hop, Way};
-use cost_rows::{Graph, Places, least_costs_by, names_of, place_of, places_in};
+use cost_rows::{Graph, Places, Row, least_costs_by, names_of, place_of, places_in};
 use rcp_base::{Member, NoMemory, RouterId, Slot};
 use rcp_model::Edge;
 use std::alloc::Global;
@@ -266,6 +268,26 @@ impl Table {
         }
         let row = self.rows.get(from.0 as usize)?;
         cost_in(self.names.as_slice(), row.as_slice(), to)
+    }
+
+    /// The costs found from a slot, none where the table is spent and where the slot is past the last member's.
+    fn costs_from(&self, from: Slot) -> &[Option<u32>]
+        ensures { (router : ℕ) → found_at self.now.names result.now router ≡ engine_costs self.now from router }
+    {
+        if self.spent {
+            return &[];
+        }
+        match self.rows.get(from.0 as usize) {
+            Some(row) => row.as_slice(),
+            None => &[],
+        }
+    }
+
+    /// The costs from a slot as a row.
+    pub fn row(&self, alloc: Global, from: Slot) -> Result<Row, NoMemory>
+        ensures { IfOk result (λ row. (router : ℕ) → get_at same_number router row ≡ engine_costs self.now from router) }
+    {
+        row_of(alloc, self.names.as_slice(), self.costs_from(from))
     }
 
     /// Makes places for the ends of an edge, where it was added and they have none.

@@ -11,4 +11,4 @@ returns-then-eq-clause-edges c state holds =
 
 pub returns-clause-same : goal.returns-clause-same
 returns-clause-same c same = absurd (false≢true (sym c.if-eq.false ∙ c.eq.ensures ∙ edges_equal c.edges.result.now c.edges-2.result.now
-    (c.edges.ensures.edges ∙ sym (ap (λ (v : ViewOf). v.edges) c.in_ok-other.ensures) ∙ same ∙ sym (c.edges-2.ensures.edges ∙ c.graph-2.ensures ∙ ap (λ (v : ViewOf). v.edges) c.deref.ensures))))
+    (c.edges.ensures.edges ∙ sym c.in_ok-bring_over.ensures.edges ∙ same ∙ sym (c.edges-2.ensures.edges ∙ c.graph-2.ensures ∙ ap (λ (v : ViewOf). v.edges) c.deref.ensures))))
