@@ -2,6 +2,6 @@ mod EdgeLemmas
 mod FollowingLemmas
 mod StreamLemmas
 mod TakingLemmas
-mod YoungLemmas
+pub mod YoungLemmas
 mod ReadLemmas
 mod RosterLemmas

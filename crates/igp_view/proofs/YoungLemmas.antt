@@ -81,12 +81,12 @@ module _ (now : ℕ) where
     at_answer Older is = young
     at_answer Dropped is = young
 
-  young-all : (lsas : List RouterLsa) (state : LinkState) → AreYoung state.routers → AreYoung (installed_all now lsas state).routers
+  pub young-all : (lsas : List RouterLsa) (state : LinkState) → AreYoung state.routers → AreYoung (installed_all now lsas state).routers
   unfolding installed_all installed
   young-all [] state young = young
   young-all (lsa ∷ lsas) state young = young-all lsas (installed now lsa state) (young-installed lsa state.routers young)
 
-  aged-again : (state : LinkState) → AreYoung state.routers → aged now state ≡ state
+  pub aged-again : (state : LinkState) → AreYoung state.routers → aged now state ≡ state
   unfolding aged
   aged-again state young = ap (λ (l : List (ℕ × Kept)). record { routers = l }) (aged-young state.routers young)
 
