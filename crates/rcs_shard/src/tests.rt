@@ -10,6 +10,9 @@ use std::alloc::Global;
 use std::sync::Arc;
 use std::test::Fail;
 
+mod plain;
+mod random;
+
 /// Four routers A, B, C and F.
 const ROSTER: &[u8] =
     b"as 65000\nid 10.0.0.254\nshards 1\nhold 90\narea 0.0.0.0\nrouter 10.0.0.1 10.0.0.1\nrouter 10.0.0.2 10.0.0.2\nrouter 10.0.0.3 10.0.0.3\nrouter 10.0.0.4 10.0.0.4\n";
@@ -110,11 +113,6 @@ fn lower(shard: &mut Shard, slot: u16) {
     if is_member(shard, slot) && shard.connected(Slot(slot)) {
         shard.down(Slot(slot));
     }
-}
-
-/// Whether a slot can announce a prefix.
-fn can_announce(shard: &Shard, slot: u16, p: Prefix) -> bool {
-    is_member(shard, slot) && shard.connected(Slot(slot)) && shard.owns(p)
 }
 
 fn announce(shard: &mut Shard, slot: u16, p: Prefix, route: Route) -> Result<(), NoMemory> {
