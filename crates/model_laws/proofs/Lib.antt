@@ -1,2 +1,3 @@
 pub mod EndLemmas
 pub mod FormLemmas
+pub mod GroupLemmas

@@ -4,7 +4,8 @@
 //! crate, so that a further law proves nothing anew but itself. A reader may rely on these:
 //!
 //! - `ends`: with which NOTIFICATION a BGP session ends, and that no other is sent;
-//! - `forms`: which path attributes are sent on, and with which flags, those of unrecognised types among them.
+//! - `forms`: which path attributes are sent on, and with which flags, those of unrecognised types among them;
+//! - `packing`: each value has one group of UPDATEs, with exactly the prefixes of its cells.
 //!
 //! ```text
 //! ensures { (roster : RosterOf) (input : Input) (session : SessionState) → IsEndTold (answer roster input session).does }
@@ -13,3 +14,4 @@
 
 pub mod ends;
 pub mod forms;
+pub mod packing;
