@@ -5,6 +5,7 @@
 //!
 //! - `ends`: with which NOTIFICATION a BGP session ends, and that no other is sent;
 //! - `forms`: which path attributes are sent on, and with which flags, those of unrecognised types among them;
+//! - `link_state`: each kept router LSA stands under its own router, and what a time and an LSA leave;
 //! - `packing`: each value has one group of UPDATEs, with exactly the prefixes of its cells.
 //!
 //! ```text
@@ -14,4 +15,5 @@
 
 pub mod ends;
 pub mod forms;
+pub mod link_state;
 pub mod packing;
