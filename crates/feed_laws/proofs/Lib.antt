@@ -12,3 +12,4 @@ pub mod RosterFormLemmas
 pub mod FeedLemmas
 pub mod OrderLemmas
 pub mod OutputLemmas
+pub mod CountLemmas

@@ -3,3 +3,4 @@ pub mod Cuts
 pub mod WholeReading
 pub mod RosterTexts
 pub mod Order
+pub mod Counts

@@ -1,6 +1,6 @@
 //! What records come to within a feed.
 
-ghost use Rattle.std.specs.Prelude.{◌≡◌, ℕ, ◌<◌, List, AllPairs, take, Some, None};
+ghost use Rattle.std.specs.Prelude.{◌≡◌, ℕ, ◌<◌, List, AllPairs, min, take, Some, None};
 ghost use Rattle.rcp_base.specs.Octets.{AreOctets};
 ghost use Rattle.rcp_base.specs.Feed.{FeedRecord};
 ghost use Rattle.rcp_base.specs.Maps.{get_at};
@@ -11,6 +11,8 @@ ghost use Rattle.feed_meaning.specs.Platform.{Platform, fresh, nothing_done};
 ghost use Rattle.feed_meaning.specs.Runs.{act, platform_after, NumbersRise, Headline};
 ghost use Rattle.feed_meaning.specs.WholeFeeds.{feed_meaning};
 ghost use Rattle.rcp_base.specs.declared.kinds.Kind.TheVariants as kind;
+ghost use Rattle.feed_meaning.specs.OutRecords.{MOST};
+ghost use Rattle.feed_laws.specs.Counts.{count_updates};
 ghost use Rattle.feed_laws.specs.Order.{StandByConnection, StandBeforeLast};
 ghost use Rattle.feed_laws.specs.Cuts.{octets_record, end_record};
 
@@ -45,4 +47,11 @@ pub fn output_stands_by_rising_number()
         → StandByConnection (act (platform_after (fresh roster) items) (record { kind = kind.Slice; source = source; body = body })).out }
     ensures drain { (roster : RosterOf) (items : List FeedRecord) → NumbersRise 0 items → (source : ℕ) (body : List ℕ)
         → StandBeforeLast (act (platform_after (fresh roster) items) (record { kind = kind.Drain; source = source; body = body })).out }
+{}
+
+/// The platform's count of UPDATEs is, after every list of records, how many messages their slices and drains put out, up
+/// to 2^64 - 1.
+pub fn updates_are_counted()
+    ensures { (roster : RosterOf) (items : List FeedRecord)
+        → (platform_after (fresh roster) items).updates ≡ min (count_updates (fresh roster) items) MOST }
 {}

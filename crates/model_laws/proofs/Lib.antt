@@ -1,2 +1,5 @@
 pub mod EndLemmas
 pub mod FormLemmas
+pub mod GroupLemmas
+pub mod LinkStateLemmas
+pub mod EdgeLemmas

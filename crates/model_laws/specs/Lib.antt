@@ -1,2 +1,4 @@
 pub mod Ends
 pub mod Forms
+pub mod LinkStates
+pub mod LearnedEdges
