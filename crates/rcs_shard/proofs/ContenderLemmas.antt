@@ -1,5 +1,5 @@
 -- The candidates of a slot: which they are, how they are listed, and what is tied among them.
-use Rattle.std.proofs.Common.{◌≡◌, ◌≢◌, ℕ, zero, suc, ◌+◌, ◌<◌, ◌≤◌, Bool, true, false, cond, ◌&&◌, eqb, List, [], ◌∷◌, ◌++◌, length, take, get_or, Option, Some, None, is_some, IsSome, refl, sym, ap, subst, ◌∙◌, inl, inr, ◌⊎◌, arith, get_or-set_same, get_or-set_other}
+use Rattle.std.proofs.Common.{◌≡◌, ℕ, zero, suc, ◌+◌, ◌<◌, ◌≤◌, Bool, true, false, cond, ◌&&◌, eqb, List, [], ◌∷◌, ◌++◌, length, take, get_or, Option, Some, None, is_some, IsSome, refl, sym, ap, subst, ◌∙◌, inl, inr, ◌⊎◌, arith, get_or-set_same, get_or-set_other}
 use Rattle.std.specs.Prelude.{◌↔◌, Contains, AllPairs, IfSome, IsSomeAnd, slice_get}
 use Rattle.std.specs.FinMap as map_of
 use Rattle.std.proofs.Math.ListN.{set, length-set}
@@ -12,7 +12,7 @@ use Rattle.rcp_base.specs.IpPrefix.{IpPrefix}
 use Rattle.rcp_base.specs.declared.names.Member.{Member}
 use Rattle.rcp_model.specs.Routes.{RouteFields, is_usable}
 use Rattle.rcp_model.specs.Ribs.{RouteNumbers}
-use Rattle.rcp_model.specs.Decision.{Contender, contender, tied, choice}
+use Rattle.rcp_model.specs.Decision.{Contender, contender, tied}
 use Rattle.rcp_model.specs.RouteServer.{slot_cost, contender_of, cons_some}
 use Rattle.rcp_model.specs.ServerRibs.{Values, Rib, route_reader, value_contender, contenders_from, of_other, offer_of, at_prefix}
 use Rattle.rcp_model.proofs.FilterLemmas.{member_of_tied, tied_member}

@@ -6,7 +6,7 @@ use Rattle.std.proofs.lemmas.Bool.{and_parts, eqb-true, false≢true}
 use Rattle.rcp_base.specs.IpPrefix.{IpPrefix}
 use Rattle.rcp_base.specs.Maps.{same_prefix}
 use Rattle.rcp_model.specs.Routes.{RouteFields}
-use Rattle.rcp_model.specs.Ribs.{RibKey, rib_cmp}
+use Rattle.rcp_model.specs.Ribs.{RibKey}
 use Rattle.rcp_model.specs.ServerRibs.{Values, same_route, same_values}
 use Rattle.rcp_base.proofs.MapLemmas.{same_prefix-is}
 use Rattle.rcp_model.proofs.RibLemmas.{rib_total}

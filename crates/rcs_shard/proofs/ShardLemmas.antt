@@ -1,5 +1,5 @@
 -- What each call does to a shard, and that its parts stay together.
-use Rattle.std.proofs.Common.{◌≡◌, ℕ, ◌+◌, ◌<◌, ◌≤◌, Bool, true, false, cond, not, ◌&&◌, ◌||◌, ◌⊎◌, eqb, ltb, List, [], ◌∷◌, map, length, Option, Some, None, is_some, IsSome, refl, sym, ap, subst, ◌∙◌, inl, inr, arith}
+use Rattle.std.proofs.Common.{◌≡◌, ℕ, ◌<◌, ◌≤◌, Bool, true, false, cond, not, ◌&&◌, ◌||◌, ◌⊎◌, eqb, ltb, List, [], ◌∷◌, map, length, Option, Some, None, is_some, IsSome, refl, sym, ap, subst, ◌∙◌, inl, inr, arith}
 use Rattle.std.specs.Prelude.{filter, Contains}
 use Rattle.std.specs.FinMap as map_of
 use Rattle.std.specs.FinSet as set_of
@@ -7,7 +7,7 @@ use Rattle.std.specs.List.{list_any}
 use Rattle.std.specs.Ordering.{nat_cmp, eq_by_cmp}
 use Rattle.std.specs.Cmp.{unsigned_tied}
 use Rattle.std.proofs.lemmas.Cmp.{nat_cmp_total}
-use Rattle.std.proofs.lemmas.Bool.{false≢true, and_parts, and_from, or_cases, or_left, or_right, eqb-true, eq-eqb, lt-ltb, not-false, not-true}
+use Rattle.std.proofs.lemmas.Bool.{false≢true, and_parts, and_from, or_cases, or_left, or_right, eqb-true, lt-ltb}
 use Rattle.rcp_base.specs.IpPrefix.{IpPrefix, prefix_cmp}
 use Rattle.rcp_base.specs.Maps.{same_prefix}
 use Rattle.rcp_base.specs.declared.names.Edge.{Edge}
@@ -16,11 +16,11 @@ use Rattle.rcp_model.specs.Routes.{RouteFields, is_usable}
 use Rattle.rcp_model.specs.Ribs.{RibKey, rib_cmp}
 use Rattle.rcp_model.specs.Decision.{Contender, tied, choice}
 use Rattle.rcp_model.specs.RouteServer.{slot_cost, cost_differs}
-use Rattle.rcp_model.specs.ServerRibs.{Values, Rib, Reader, route_reader, same_route, same_values, RibEvent, Up, Down, Change, Links, Work, at_prefix, is_up, with_value, without_slot, with_each, prefixes_of, of_other, offer_of, ribs_after}
+use Rattle.rcp_model.specs.ServerRibs.{Values, Rib, same_route, same_values, Up, Down, Change, Links, Work, at_prefix, is_up, with_value, with_each, prefixes_of, of_other, offer_of, ribs_after}
 use Rattle.rcp_base.proofs.MapLemmas.{same_prefix-is}
 use Rattle.rcp_model.proofs.MemberLemmas.{Contains-filled, Contains-head}
 use Rattle.rcp_model.proofs.FilterLemmas.{choice-nil, choice_is_tied, member_of_tied}
-use Rattle.rcp_model.proofs.RibLemmas.{prefix_total, prefix_exact, rib_total, rib_exact}
+use Rattle.rcp_model.proofs.RibLemmas.{prefix_total, rib_total, rib_exact}
 use Rattle.rib_laws.proofs.RibLookups.{same_test, prefix_tied, key_tied, get-with_value, get-without_slot, get-with_each, has_of_prefixes}
 use Rattle.rib_laws.proofs.PendingLemmas.{route_exact}
 use Rattle.cost_rows.specs.Views.{ViewOf}
@@ -29,10 +29,10 @@ use Rattle.pending_marks.specs.Marks as marks
 use Rattle.pending_marks.proofs.FirstLemmas.{tied_self}
 use Rattle.adj_ribs.specs.Bases.{Bases, no_bases, announced_at, given_at, is_opened, after_change, after_open, after_drop, after_clear}
 use Rattle.rcs_shard.specs.Slots.{SlotsOf, has_slot}
-use Rattle.rcs_shard.specs.Shards.{ShardOf, CellSet, differing, acted}
-use Rattle.rcs_shard.specs.Joins.{shard_in, AreMarkable, AreOpened, HaveCells, AreUsable, AreMembers, IsJoined, ArePlaces}
+use Rattle.rcs_shard.specs.Shards.{ShardOf, differing, acted}
+use Rattle.rcs_shard.specs.Joins.{shard_in, IsJoined, ArePlaces}
 use Rattle.rcs_shard.specs.Settling.{candidates_at, offers_at, AreSeated, AreClasses, Settles}
-use Rattle.rcs_shard.proofs.ContenderLemmas.{candidate_of, IsCandidateAt}
+use Rattle.rcs_shard.proofs.ContenderLemmas.{candidate_of}
 
 -- ---- the events
 

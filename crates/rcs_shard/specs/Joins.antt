@@ -1,7 +1,6 @@
 -- How the parts of a shard belong together.
 use Rattle.std.specs.Prelude.{◌≡◌, ℕ, ◌<◌, ◌≤◌, true, List, length, Some, IsSome}
 use Rattle.std.specs.FinSet as set_of
-use Rattle.std.specs.Ordering.{nat_cmp}
 use Rattle.rcp_base.specs.IpPrefix.{IpPrefix}
 use Rattle.rcp_model.specs.Routes.{RouteFields, is_usable}
 use Rattle.cost_rows.specs.Views.{ViewOf}

@@ -1,13 +1,12 @@
 -- How the cells of a prefix are decided: the candidates of the slots that reach the same ones, and the cells that are set.
-use Rattle.std.specs.Prelude.{◌≡◌, ℕ, ◌<◌, ◌≤◌, Bool, true, not, ◌&&◌, ◌||◌, ◌==◌, List, length, Contains, Option, Some, None, IsSome, is_some, slice_get, slice_index, slice_index_or, nat_lt, if◌then◌else◌}
+use Rattle.std.specs.Prelude.{◌≡◌, ℕ, ◌<◌, ◌≤◌, Bool, not, ◌&&◌, ◌||◌, ◌==◌, List, length, Option, Some, None, IsSome, is_some, slice_get, slice_index, slice_index_or, nat_lt, if◌then◌else◌}
 use Rattle.std.specs.FinMap as map_of
 use Rattle.std.specs.FinSet as set_of
 use Rattle.rcp_base.specs.IpPrefix.{IpPrefix}
-use Rattle.rcp_base.specs.declared.names.Member.{Member}
 use Rattle.rcp_base.specs.Maps.{same_prefix}
-use Rattle.rcp_model.specs.Routes.{RouteFields, is_usable}
+use Rattle.rcp_model.specs.Routes.{RouteFields}
 use Rattle.rcp_model.specs.Ribs.{RibKey}
-use Rattle.rcp_model.specs.Decision.{Contender, contender}
+use Rattle.rcp_model.specs.Decision.{Contender}
 use Rattle.rcp_model.specs.RouteServer.{slot_cost}
 use Rattle.rcp_model.specs.ServerRibs.{Values, same_route, same_values, route_reader, contenders_from, offer_of, at_prefix}
 use Rattle.cost_rows.specs.Views.{ViewOf}

@@ -1,15 +1,14 @@
 -- One shard of the route control server: a server of routes, and which cells changed since they were last taken.
-use Rattle.std.specs.Prelude.{◌≡◌, ℕ, Bool, true, not, ◌==◌, List, length, map, filter, Option, Some, None, IsSome, refl}
+use Rattle.std.specs.Prelude.{◌≡◌, ℕ, Bool, true, not, ◌==◌, List, map, filter, Option, Some, None, IsSome, refl}
 use Rattle.std.specs.Coded.{Coded, code_by, coded×, coded_ℕ, coded_list}
-use Rattle.std.specs.FinMap as map_of
 use Rattle.std.specs.FinSet as set_of
-use Rattle.rcp_base.specs.IpPrefix.{IpPrefix, shard_of_prefix}
+use Rattle.rcp_base.specs.IpPrefix.{IpPrefix}
 use Rattle.rcp_base.specs.declared.names.Member.{Member}
 use Rattle.rcp_base.specs.declared.names.Edge.{Edge}
 use Rattle.rcp_model.specs.Assigned.{IsLeast, IsAfter}
 use Rattle.rcp_model.specs.Routes.{RouteFields}
 use Rattle.rcp_model.specs.Ribs.{RibKey, rib_cmp, prefix_code}
-use Rattle.rcp_model.specs.ServerRibs.{Reader, same_route, same_values, route_reader, RibEvent, Up, Down, Change, Links, Work, Rib, Ribs, at_prefix, is_up, has_pending, empty_ribs, ribs_after, ribs_code}
+use Rattle.rcp_model.specs.ServerRibs.{same_route, same_values, route_reader, RibEvent, Up, Down, Change, Links, Work, Rib, Ribs, at_prefix, is_up, has_pending, empty_ribs, ribs_after, ribs_code}
 use Rattle.attr_store.specs.Kept.{fields_code}
 
 -- a set of cells, each by its prefix and the slot of its router

@@ -1,5 +1,5 @@
 -- One sender more was taken back, and one less is left.
-use Rattle.std.proofs.Common.{◌≡◌, ◌∷◌, ◌++◌, ◌∙◌, [], suc, List, length, map, All, ap, sym, subst, arith, append_assoc}
+use Rattle.std.proofs.Common.{◌≡◌, ◌∷◌, ◌++◌, ◌∙◌, [], suc, map, All, ap, sym, subst, arith, append_assoc}
 use Rattle.mailbox.specs.declared.ends.Sender.{Sender}
 use Rattle.mailbox.specs.Boxes.{finished, IsOf, entry}
 use Rattle.mailbox.proofs.making.finish.Goals as goal

@@ -1,4 +1,4 @@
-use Rattle.std.proofs.Common.{subst, List, ℕ}
+use Rattle.std.proofs.Common.{subst}
 use Rattle.crossbeam_queue.specs.Passes.{view}
 use Rattle.mailbox.specs.Boxes.{Mail}
 use Rattle.mailbox.proofs.Moves.{learns, listed}

@@ -1,13 +1,13 @@
-use Rattle.std.proofs.Common.{◌≡◌, ℕ, ◌+◌, ◌<◌, ◌≤◌, ◌++◌, ◌∷◌, [], ◌&&◌, true, false, List, Option, Some, is_some, length, take, get_or, refl, sym, ap, subst, ◌∙◌, arith, rules}
-use Rattle.std.specs.Prelude.{◌↔◌, Contains}
+use Rattle.std.proofs.Common.{◌≡◌, ℕ, ◌+◌, ◌<◌, ◌≤◌, ◌++◌, ◌∷◌, [], ◌&&◌, Some, is_some, length, take, refl, sym, ap, subst, ◌∙◌, arith}
+use Rattle.std.specs.Prelude.{Contains}
 use Rattle.std.proofs.Math.ListN.{set, length-set}
 use Rattle.std.proofs.lemmas.List.{take_more, take_more_set, take_all}
 use Rattle.std.proofs.lemmas.List.Elements.{Contains-get_or}
-use Rattle.rcp_model.specs.Decision.{Contender, contender}
+use Rattle.rcp_model.specs.Decision.{contender}
 use Rattle.rcp_model.specs.Routes.{is_usable}
 use Rattle.rcp_model.specs.RouteServer.{slot_cost}
 use Rattle.cost_rows.specs.Views.{identifier_at}
-use Rattle.adj_ribs.specs.Bases.{IsAnnouncer, announced_at}
+use Rattle.adj_ribs.specs.Bases.{IsAnnouncer}
 use Rattle.rcs_shard.proofs.ContenderLemmas.{place_low, listed_none, listed_skip, listed_more, listed_all, listed_to}
 use Rattle.rcs_shard.proofs.candidates.list_candidates.Goals as goal
 use Rattle.rcs_shard.proofs.candidates.list_candidates.Goals.{then-is_candidate, else-is_candidate, After-route, Joined-is_candidate}

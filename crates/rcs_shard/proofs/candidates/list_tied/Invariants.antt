@@ -1,4 +1,4 @@
-use Rattle.std.proofs.Common.{◌≡◌, ℕ, ◌≤◌, length, take}
+use Rattle.std.proofs.Common.{ℕ, ◌≤◌, length, take}
 use Rattle.std.specs.Prelude.{◌↔◌, Contains}
 use Rattle.rcs_shard.proofs.ContenderLemmas.{TiedBefore}
 use Rattle.rcs_shard.proofs.candidates.list_tied.Given as goal

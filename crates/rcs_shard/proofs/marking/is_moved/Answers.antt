@@ -1,4 +1,4 @@
-use Rattle.std.proofs.Common.{ℕ, List, length, not, sym, ap, ◌∙◌, arith}
+use Rattle.std.proofs.Common.{List, length, sym, ap, ◌∙◌, arith}
 use Rattle.rcp_base.specs.declared.names.Member.{Member}
 use Rattle.rcp_model.specs.RouteServer.{slot_cost}
 use Rattle.rib_laws.proofs.PendingLemmas.{test_of_moves}

@@ -1,4 +1,4 @@
-use Rattle.std.proofs.Common.{◌≡◌, false, length, ◌≤◌}
+use Rattle.std.proofs.Common.{◌≡◌, false}
 use Rattle.rcp_model.specs.RouteServer.{cost_differs}
 use Rattle.rcs_shard.proofs.marking.is_moved.Given as goal
 

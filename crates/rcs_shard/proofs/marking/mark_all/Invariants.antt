@@ -1,6 +1,4 @@
-use Rattle.std.proofs.Common.{◌≡◌, true, ◌&&◌, ltb, length}
-use Rattle.std.specs.FinSet as set_of
-use Rattle.rcp_model.specs.RouteServer.{cost_differs}
+use Rattle.std.proofs.Common.{◌≡◌, true}
 use Rattle.rcs_shard.proofs.MarkingLemmas.{marked_below}
 use Rattle.rcs_shard.proofs.marking.mark_all.Given as goal
 

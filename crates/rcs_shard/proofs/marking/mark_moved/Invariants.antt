@@ -1,5 +1,4 @@
-use Rattle.std.proofs.Common.{◌≡◌, true, ◌&&◌, ltb, length}
-use Rattle.std.specs.FinSet as set_of
+use Rattle.std.proofs.Common.{◌≡◌, length}
 use Rattle.rcp_model.specs.RouteServer.{cost_differs}
 use Rattle.rcs_shard.proofs.MarkingLemmas.{marked_below}
 use Rattle.rcs_shard.proofs.marking.mark_moved.Given as goal

@@ -1,4 +1,4 @@
-use Rattle.rcs_shard.proofs.MarkingLemmas.{marking_begins, marking_more, marking_ends, fewer_left}
+use Rattle.rcs_shard.proofs.MarkingLemmas.{marking_more, marking_ends, fewer_left}
 use Rattle.rcs_shard.proofs.marking.mark_of.Goals as goal
 
 pub loop-p-smaller : goal.loop-p-smaller

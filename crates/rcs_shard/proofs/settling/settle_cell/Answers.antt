@@ -1,4 +1,4 @@
-use Rattle.std.proofs.Common.{◌≡◌, sym, ap, subst, ◌∙◌, Option, ℕ}
+use Rattle.std.proofs.Common.{sym, ap, subst, ◌∙◌, Option, ℕ}
 use Rattle.std.specs.Prelude.{IfSome}
 use Rattle.adj_ribs.specs.Bases.{route_of, IsAnnouncer}
 use Rattle.rcs_shard.specs.Settling.{offers_at}

@@ -1,12 +1,11 @@
-use Rattle.std.proofs.Common.{◌≡◌, ℕ, ◌<◌, false, ltb, ◌&&◌, List, length, sym, ap, subst, ◌∙◌, arith}
+use Rattle.std.proofs.Common.{◌<◌, false, ltb, ◌&&◌, List, length, sym, ap, subst, ◌∙◌, arith}
 use Rattle.std.specs.Prelude.{Contains}
 use Rattle.std.proofs.lemmas.Bool.{eqb-true}
 use Rattle.rcp_model.specs.Decision.{Contender}
-use Rattle.rcp_model.specs.Ribs.{RouteNumbers}
 use Rattle.egress_rank.specs.Egresses.{AreTiedOf}
 use Rattle.adj_ribs.specs.Bases.{Bases}
 use Rattle.rcs_shard.specs.Slots.{has_slot}
-use Rattle.rcs_shard.specs.Settling.{class_at, offers_at, is_in_class, ReachAlike}
+use Rattle.rcs_shard.specs.Settling.{offers_at, is_in_class, ReachAlike}
 use Rattle.rcs_shard.proofs.SettleLemmas.{settled_none, settled_as}
 use Rattle.rcs_shard.proofs.ContenderLemmas.{candidates_alike, candidates_still, kept_still, number_there}
 use Rattle.rcs_shard.proofs.ClassLemmas.{upto_none}

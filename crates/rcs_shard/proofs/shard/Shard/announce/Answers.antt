@@ -1,12 +1,10 @@
-use Rattle.std.proofs.Common.{◌≡◌, true, false, Option, Some, refl, sym, ap, ◌∙◌}
+use Rattle.std.proofs.Common.{Some, refl, sym, ap, ◌∙◌}
 use Rattle.std.specs.FinMap as map_of
 use Rattle.std.specs.FinSet as set_of
-use Rattle.std.proofs.lemmas.Bool.{false≢true, not-true, not-false, both_ways}
-use Rattle.rcp_model.specs.Routes.{RouteFields}
-use Rattle.rcp_model.specs.ServerRibs.{same_route, same_values, Change}
+use Rattle.std.proofs.lemmas.Bool.{not-true, not-false, both_ways}
+use Rattle.rcp_model.specs.ServerRibs.{Change}
 use Rattle.pending_marks.specs.Marks.{MarksOf}
 use Rattle.pending_marks.specs.Marks as marks
-use Rattle.adj_ribs.specs.Bases.{Bases}
 use Rattle.rcs_shard.specs.Shards.{ShardOf, acted, is_connected, announced_at}
 use Rattle.rcs_shard.specs.Joins.{shard_in}
 use Rattle.rcs_shard.proofs.ShardLemmas.{change_acts, same_acts, joined_to, joined_open, joined_announced, joined_announced_marked, opened_now, member_in, values_same, values_differ}

@@ -1,9 +1,9 @@
 use Rattle.std.proofs.Common.{ap, ◌∙◌}
 use Rattle.rcp_model.specs.ServerRibs.{Down}
-use Rattle.adj_ribs.specs.Bases.{Bases, after_clear}
+use Rattle.adj_ribs.specs.Bases.{after_clear}
 use Rattle.rcs_shard.specs.Shards.{acted}
 use Rattle.rcs_shard.specs.Joins.{shard_in}
-use Rattle.rcs_shard.proofs.ShardLemmas.{down_acts, joined_to, joined_down, member_in}
+use Rattle.rcs_shard.proofs.ShardLemmas.{down_acts, joined_to, joined_down}
 use Rattle.rcs_shard.proofs.shard.Shard.down.Goals as goal
 
 pub invariant_of-self : goal.invariant_of-self

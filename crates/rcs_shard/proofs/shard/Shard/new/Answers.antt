@@ -1,4 +1,4 @@
-use Rattle.std.proofs.Common.{◌≡◌, ℕ, List, length, sym, ap, subst, ◌∙◌, rules}
+use Rattle.std.proofs.Common.{◌≡◌, ℕ, length, sym, ap, subst, ◌∙◌, rules}
 use Rattle.std.specs.FinSet as set_of
 use Rattle.cost_rows.specs.Views.{ViewOf}
 use Rattle.cost_rows.proofs.SearchLemmas.{whole}

@@ -1,8 +1,8 @@
-use Rattle.std.proofs.Common.{ℕ, ap, ◌∙◌, arith}
+use Rattle.std.proofs.Common.{ap, ◌∙◌}
 use Rattle.rcp_model.specs.ServerRibs.{Up}
 use Rattle.rcs_shard.specs.Shards.{acted}
 use Rattle.rcs_shard.specs.Joins.{shard_in}
-use Rattle.rcs_shard.proofs.ShardLemmas.{up_acts, joined_to, joined_up, seated_in, member_in}
+use Rattle.rcs_shard.proofs.ShardLemmas.{up_acts, joined_to, joined_up, member_in}
 use Rattle.rcs_shard.proofs.shard.Shard.up.Goals as goal
 
 pub invariant_of-self : goal.invariant_of-self

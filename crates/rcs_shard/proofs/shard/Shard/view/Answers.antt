@@ -1,9 +1,7 @@
-use Rattle.std.proofs.Common.{◌≡◌, ℕ, List, length, refl, sym, ap, subst, ◌∙◌}
-use Rattle.rcp_base.specs.declared.names.Member.{Member}
+use Rattle.std.proofs.Common.{◌≡◌, refl, sym, ap, subst, ◌∙◌}
 use Rattle.rcp_model.specs.ServerRibs.{Links}
 use Rattle.cost_rows.specs.Views.{ViewOf}
 use Rattle.cost_rows.proofs.SearchLemmas.{whole}
-use Rattle.pending_marks.specs.Marks.{MarksOf}
 use Rattle.rcs_shard.specs.Settling.{AreClasses}
 use Rattle.rcs_shard.specs.Shards.{ShardOf, acted}
 use Rattle.rcs_shard.specs.Joins.{shard_in}

@@ -1,4 +1,4 @@
-use Rattle.std.proofs.Common.{◌≡◌, ℕ, ltb, ◌&&◌, List, length, refl, sym, ap, subst, ◌∙◌}
+use Rattle.std.proofs.Common.{ltb, ◌&&◌, length, refl, ap, subst, ◌∙◌}
 use Rattle.rcp_model.specs.ServerRibs.{Work}
 use Rattle.cost_rows.specs.Views.{ViewOf}
 use Rattle.cost_rows.proofs.SearchLemmas.{whole}

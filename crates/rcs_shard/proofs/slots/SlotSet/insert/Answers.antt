@@ -1,4 +1,4 @@
-use Rattle.std.proofs.Common.{◌≡◌, ℕ, ◌<◌, length, ap, ◌∙◌, arith}
+use Rattle.std.proofs.Common.{◌≡◌, ◌<◌, length, ap, ◌∙◌, arith}
 use Rattle.std.specs.FinSet as set_of
 use Rattle.rcs_shard.specs.Slots.{SlotsOf}
 use Rattle.rcs_shard.proofs.SlotLemmas.{inserted}
