@@ -1,4 +1,3 @@
-use Rattle.std.proofs.Common.{sym, subst, ap, ◌∙◌}
 use Rattle.igp_view.proofs.FollowingLemmas.{renewals_by}
 use Rattle.igp_view.proofs.following.follow.Goals as goal
 

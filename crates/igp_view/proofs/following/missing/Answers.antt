@@ -1,4 +1,4 @@
-use Rattle.std.proofs.Common.{[], ◌∷◌, Contains, ◌⊎◌, inl, inr, subst}
+use Rattle.std.proofs.Common.{[], ◌∷◌, inl, inr}
 use Rattle.std.proofs.lemmas.List.{take_all}
 use Rattle.std.proofs.lemmas.List.Elements.{Contains-append_left, Contains-append_right}
 use Rattle.rcp_model.proofs.MemberLemmas.{Contains-head}

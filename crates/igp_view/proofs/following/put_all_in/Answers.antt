@@ -1,4 +1,4 @@
-use Rattle.std.proofs.Common.{take, sym, ap, subst, ◌∙◌}
+use Rattle.std.proofs.Common.{take, ap, subst, ◌∙◌}
 use Rattle.std.proofs.lemmas.List.{take_all}
 use Rattle.rcp_model.specs.Graphs.{IsGraph}
 use Rattle.cost_rows.specs.Views.{ViewOf}

@@ -1,7 +1,5 @@
 use Rattle.std.proofs.Common.{take}
 use Rattle.spf_incr.specs.Tables.{engine_costs}
-use Rattle.std.proofs.lemmas.List.{take_all}
-use Rattle.igp_view.specs.Following.{AreRowsOf}
 use Rattle.igp_view.proofs.FollowingLemmas.{taken, one_more_row, no_more_row}
 use Rattle.igp_view.proofs.following.rows_of.Goals as goal
 use Rattle.igp_view.proofs.following.rows_of.Goals.{then-not-is_last+in_ok-row+in_ok-push, else-not-is_last}

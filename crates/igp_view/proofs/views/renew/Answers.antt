@@ -1,4 +1,4 @@
-use Rattle.std.proofs.Common.{◌≡◌, true, sym, ap, ◌∙◌, subst}
+use Rattle.std.proofs.Common.{true, sym, ap, ◌∙◌}
 use Rattle.std.proofs.lemmas.Bool.{false≢true}
 use Rattle.cost_rows.specs.Views.{ViewOf}
 use Rattle.igp_view.proofs.EdgeLemmas.{equal_edges, edges_equal}

@@ -1,4 +1,4 @@
-use Rattle.std.proofs.Common.{◌<◌, ℕ, AllPairs, ap, sym, subst, ◌∙◌}
+use Rattle.std.proofs.Common.{ap, ◌∙◌}
 use Rattle.std.proofs.lemmas.List.Kept.{AllPairs-from_increasing}
 use Rattle.rcp_base.specs.Maps.{get_at}
 use Rattle.rcp_model.specs.LinkState.{same_number}
