@@ -3,7 +3,9 @@
 ghost use Rattle.std.specs.Prelude.{◌≡◌, ℕ, ◌<◌, ◌↔◌, true, not, Some, None, Ok, IfOk, OnOk, OnErr, IfSome, IfNone, IsSome, option_map, is_some};
 ghost use Rattle.std.specs.List.{AllPairs, Contains};
 ghost use Rattle.std.specs.FinMap as map_of;
+ghost use Rattle.std.specs.FinSet as set_of;
 ghost use Rattle.rcp_model.specs.Ribs.{RibKey};
+ghost use Rattle.rcp_model.specs.ServerRibs.{prefixes_of};
 ghost use Rattle.adj_ribs.specs.Bases.{no_bases, announced_at, given_at, is_opened, is_dirty, is_same, IsNextAnnounced, IsNextOf, IsNextGiven, IsLeastDirty, AreNumbered, IsNumber, IsAnnouncer, route_of, after_change, after_open, after_drop, after_set, after_clear, after_take};
 
 use crate::uses::{number_of, prefix_of, release, retain};
@@ -145,6 +147,13 @@ impl AdjRibs {
         ensures opened { IfSome result (λ p. is_opened self.now p ≡ true) }
     {
         self.announcements.next_of(slot, after)
+    }
+
+    /// How many prefixes some slot announces. It takes constant time.
+    pub fn prefixes(&self) -> u64
+        ensures { result ≡ set_of.len (prefixes_of (λ e. true) self.now.announced) }
+    {
+        self.announcements.prefixes()
     }
 
     /// Gives a slot what a router announces at a prefix, or nothing, and makes the cell dirty where its route changes. Answers whether it does.

@@ -47,19 +47,24 @@ stops_too_long state before le = record {
   first = always before (λ octets. too_long state octets le);
 }
 
-less_from_fewer : (before now : Option (List ℕ)) → TakesFewer 9 before now → TakesLess before now
-less_from_fewer before now h = record { taken = h.taken; within = omega (arith, frame_size_short h.taken h.fewer, h.fewer); given = h.given }
+less_from_fewer : (state : FeedState) (before now : Option (List ℕ)) → state.octets < 2 ^ 40 → TakesFewer 9 before now → TakesLess state before now
+less_from_fewer state before now few h = record {
+  taken = h.taken;
+  within = omega (arith, frame_size_short h.taken h.fewer, h.fewer);
+  cut = short_header state h.taken few h.fewer;
+  given = h.given;
+}
 
-part_from_less : (before now : Option (List ℕ)) → TakesLess before now → TakesPart before now
-part_from_less before now h = record { taken = h.taken; within = omega (arith, h.within); given = h.given }
+part_from_fewer : (before now : Option (List ℕ)) → TakesFewer 9 before now → TakesPart before now
+part_from_fewer before now h = record { taken = h.taken; within = omega (arith, frame_size_short h.taken h.fewer, h.fewer); given = h.given }
 
 pub stops_at_header : (state : FeedState) (before now : Option (List ℕ)) (s : Stop) → state.octets < 2 ^ 40 → IsShortOrRead s
     → (s ≡ stop.Fault why.Truncated → IfSome before (λ octets. length octets < 9)) → TakesFewer 9 before now → Takes state before now (Err s)
 stops_at_header state before now (stop.Fault w) few cause short fewer = record {
-  part = part_from_less before now (less_from_fewer before now fewer);
+  part = part_from_fewer before now fewer;
   first = IfSome_then before (short (ap stop.Fault cause)) (λ octets lt. short_header state octets few lt ∙ ap Some (sym cause));
 }
-stops_at_header state before now stop.Read few cause short fewer = less_from_fewer before now fewer
+stops_at_header state before now stop.Read few cause short fewer = less_from_fewer state before now few fewer
 stops_at_header state before now stop.NoMemory few cause short fewer = absurd cause
 
 -- ---- the header
@@ -94,10 +99,11 @@ part_of_body state h header before mid now p t = record {
   given = joined h t.taken before mid now p.given t.given;
 }
 
-less_of_body : (state : FeedState) (h : List ℕ) (header : Header) (before mid now : Option (List ℕ)) → Passed state h header before mid → TakesFewer header.len mid now → TakesLess before now
+less_of_body : (state : FeedState) (h : List ℕ) (header : Header) (before mid now : Option (List ℕ)) → Passed state h header before mid → TakesFewer header.len mid now → TakesLess state before now
 less_of_body state h header before mid now p t = record {
   taken = h ++ t.taken;
   within = omega (arith, length-append h t.taken, frame_size_front h t.taken p.nine, p.nine, p.says.len, t.fewer);
+  cut = short_body state h t.taken p.few p.nine (sym p.passed) (omega (arith, t.fewer, p.says.len));
   given = joined h t.taken before mid now p.given t.given;
 }
 

@@ -2,6 +2,7 @@
 use Rattle.std.specs.Prelude.{◌≡◌, ℕ, ◌+◌, ◌^◌, ◌<◌, ◌≤◌, ◌⊎◌, IsTrue, List, length, Option, Some, None, Result, Ok, Err, IfSome}
 use Rattle.outside.specs.Told.{in_front}
 use Rattle.rcp_base.specs.declared.kinds.FeedWhy.{FeedWhy}
+use Rattle.rcp_base.specs.declared.kinds.FeedWhy.TheVariants as why
 use Rattle.rcp_base.specs.Checks.{first_failing}
 use Rattle.rcp_base.specs.Feed.{FeedRecord, FeedState, IsRecord, record_octets, length_at, begins, frame_checks, fault_of, fault_in_front, front, frame_size}
 use Rattle.feed_format.specs.declared.taking.Stop.{Stop}
@@ -9,15 +10,17 @@ use Rattle.feed_format.specs.declared.taking.Stop.TheVariants as stop
 use Rattle.feed_format.specs.declared.reader.FeedRefusal.{FeedRefusal}
 use Rattle.feed_format.specs.declared.reader.FeedRefusal.TheVariants as refusal
 
--- the octets that were taken are no more than the record in front, or less than it
+-- the octets that were taken are no more than the record in front
 pub record TakesPart (before now : Option (List ℕ)) : Type 0 where
   pub taken : List ℕ
   pub within : length taken ≤ frame_size taken
   pub given : before ≡ in_front taken now
 
-pub record TakesLess (before now : Option (List ℕ)) : Type 0 where
+-- the same of a front of it that has no fault but that it is cut
+pub record TakesLess (state : FeedState) (before now : Option (List ℕ)) : Type 0 where
   pub taken : List ℕ
   pub within : length taken < frame_size taken
+  pub cut : fault_in_front state taken ≡ Some why.Truncated
   pub given : before ≡ in_front taken now
 
 -- what the octets are that were told says why it was refused: a fault is their first, at the number of the record
@@ -45,7 +48,7 @@ pub record TakesFault (state : FeedState) (before now : Option (List ℕ)) (faul
 abbrev pub Takes : FeedState → Option (List ℕ) → Option (List ℕ) → Result FeedRecord Stop → Type 0
 Takes state before now (Ok item) = TakesRecord state before now item
 Takes state before now (Err (stop.Fault fault)) = TakesFault state before now fault
-Takes state before now (Err stop.Read) = TakesLess before now
+Takes state before now (Err stop.Read) = TakesLess state before now
 Takes state before now (Err stop.NoMemory) = TakesPart before now
 
 -- Where memory is wanted. A faultless header stands in front and a body is to follow, of which nothing was taken:

@@ -120,10 +120,11 @@ impl Reader {
         // Memory is wanted only after a faultless header: for its body, or for a connection that the whole record begins.
         ensures no_memory { result ≡ Err FeedRefusal.NoMemory → WantsMemory self.old (S.left source.old) (S.left source.new) }
 
-        // A refusal ends the feed. It took no more than the record in front, a failed read less.
+        // A refusal ends the feed. It took no more than the record in front. Where a read failed, what was taken has no
+        // fault but that it is cut.
         ensures closed { OnErr result (self.new ≡ record self.old { closed = true }) }
         ensures part { OnErr result (TakesPart (S.left source.old) (S.left source.new)) }
-        ensures less { result ≡ Err FeedRefusal.Read → TakesLess (S.left source.old) (S.left source.new) }
+        ensures less { result ≡ Err FeedRefusal.Read → TakesLess self.old (S.left source.old) (S.left source.new) }
     {
         match self.advance(source) {
             Ok(item) => Ok(item),

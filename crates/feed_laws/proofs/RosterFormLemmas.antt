@@ -144,7 +144,7 @@ complete-form line named form fits =
       at (Some n) (Some i) (Some k) None area a b c d e f = tt
       at (Some n) (Some i) (Some k) (Some h) None a b c d e f = tt
       at (Some n) (Some i) (Some k) (Some h) (Some r) a b c d e f = record {
-        form = record { as_number = a; shards = c; hold = d; members = form.members; own = b; links = form.links };
+        form = record { as_number = a; shards = c; hold = d; members = form.members; own = b; links = form.links; two_way = form.two_way };
         id = e;
         area = f;
         addresses = fits.addresses;

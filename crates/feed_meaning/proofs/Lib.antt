@@ -1,4 +1,3 @@
-pub mod CarryLemmas
 pub mod CellLemmas
 pub mod RunLemmas
 pub mod EventLemmas

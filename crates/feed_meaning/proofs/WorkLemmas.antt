@@ -8,6 +8,7 @@ use Rattle.rcp_base.specs.declared.kinds.Kind.{Kind}
 use Rattle.rcp_base.specs.declared.kinds.Kind.TheVariants as kind
 use Rattle.rcp_base.specs.Feed.{OutRecord}
 use Rattle.rcp_base.specs.Maps.{get_at, same_prefix, is_among}
+use Rattle.rcp_model.specs.Packing.{packed}
 use Rattle.rcp_model.specs.Rising.{IsRising}
 use Rattle.rcp_model.specs.Updates.{Table}
 use Rattle.rcp_model.specs.LinkState.{same_number}
@@ -15,12 +16,12 @@ use Rattle.rcp_model.specs.RouteServer.{Server, announced_at, offer}
 use Rattle.rcp_model.specs.Sessions.{SessionState, slot_in}
 use Rattle.feed_meaning.specs.Platform.{Connections, Platform, domain_of}
 use Rattle.feed_meaning.specs.OutRecords.{messages_to, summary, sent_to}
-use Rattle.feed_meaning.specs.Work.{pending_in, shard_in, count_in, slice, changed_cells, updates_for, slot_updates, updates_sent, work_events, worked_server, work_updates, work_on, with_summary, work_act}
+use Rattle.feed_meaning.specs.Work.{pending_in, shard_in, count_in, slice, changed_cells, slot_updates, updates_sent, work_events, worked_server, work_updates, work_on, with_summary, work_act}
 use Rattle.rcp_base.proofs.MapLemmas.{same_prefix-itself}
+use Rattle.rcp_model.proofs.PackingLemmas.{packed-carries}
 use Rattle.rcp_model.proofs.OfferLemmas.{filter-keeps, offer-fits}
 use Rattle.rcp_model.proofs.RisingLemmas.{rising-filter, rising-take, take-keeps}
 use Rattle.rcp_model.proofs.ServerLemmas.{number-other}
-use Rattle.feed_meaning.proofs.CarryLemmas.{carries_all}
 use Rattle.feed_meaning.proofs.CellLemmas.{FitsAt, are-cells, cells-give}
 use Rattle.feed_meaning.proofs.RunLemmas.{Replays, Replays-carried, Worked, worked-all}
 use Rattle.feed_meaning.proofs.EventLemmas.{settled-all, rising-all, work-good}
@@ -95,11 +96,11 @@ module _ (platform : Platform) (outs : List OutRecord) (last : ℕ) (ps : List I
 
   -- the octets so far and the UPDATEs of the changed cells replay to the new table
   replays_on : (octets : List ℕ) (slot : ℕ) (table new : Table) → Replays octets table → Gives slot table new
-      → Replays (octets ++ concat (updates_for (changed_cells ps (Some table) (Some new)))) new
+      → Replays (octets ++ concat (packed (changed_cells ps (Some table) (Some new)))) new
   replays_on octets slot table new before gives =
       let cells = changed_cells ps (Some table) (Some new) in
       let are = are-cells ps (Some table) (Some new) rising (fits slot table new ps gives (among-itself ps) forms) in
-      Replays-carried octets (updates_for cells) cells table new before (carries_all cells are)
+      Replays-carried octets (packed cells) cells table new before (packed-carries cells are)
       (λ q. cells-give ps (Some table) (Some new) q rising (
       elim (cases_Bool (is_among ps q)) [
         | inl e ↦ inl e

@@ -7,8 +7,9 @@ use Rattle.rcp_base.specs.declared.kinds.Kind.{Kind}
 use Rattle.rcp_base.specs.declared.kinds.Kind.TheVariants as kind
 use Rattle.rcp_base.specs.Feed.{OutRecord}
 use Rattle.rcp_base.specs.Maps.{get_at, same_prefix}
-use Rattle.rcp_model.specs.Updates.{Table, update_octets}
+use Rattle.rcp_model.specs.Updates.{Table}
 use Rattle.rcp_model.specs.Cells.{Cell}
+use Rattle.rcp_model.specs.Packing.{packed}
 use Rattle.rcp_model.specs.Sessions.{slot_in}
 use Rattle.rcp_model.specs.RouteServer.{Server, ServerEvent, Work, after_all, table_of, same_octets}
 use Rattle.feed_meaning.specs.Platform.{Connections, Platform, domain_of, Acted, nothing_done}
@@ -45,19 +46,10 @@ changed_cells (p ∷ prefixes) before now =
     then changed_cells prefixes before now
     else (p, cell_of now p) ∷ changed_cells prefixes before now
 
--- one UPDATE for a cell: an announcement, or a withdrawal where it became empty
-abbrev pub cell_update : IpPrefix → Option (List ℕ) → List ℕ
-cell_update p None = update_octets (p ∷ []) [] []
-cell_update p (Some octets) = update_octets [] octets (p ∷ [])
-
--- THE RULE by which cells that changed are sent: one UPDATE for each
-unfoldable pub updates_for : List Cell → List (List ℕ)
-updates_for cells = map (λ cell. cell_update cell.0 cell.1) cells
-
--- what a slot is sent, where there is one
+-- the packed UPDATEs that a slot is sent, where there is one
 abbrev pub slot_updates : List IpPrefix → Server → Server → Option ℕ → List (List ℕ)
 slot_updates prefixes before now None = []
-slot_updates prefixes before now (Some slot) = updates_for (changed_cells prefixes (table_of before slot) (table_of now slot))
+slot_updates prefixes before now (Some slot) = packed (changed_cells prefixes (table_of before slot) (table_of now slot))
 
 -- the UPDATEs to each connection, by rising number, for what changed at these prefixes
 abbrev pub updates_sent : List IpPrefix → Server → Server → Connections → List OutRecord

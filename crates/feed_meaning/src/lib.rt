@@ -9,7 +9,7 @@
 //! | `OutRecords` | messages, ends of connections, lost framing and summaries, and what of it goes to one connection |
 //! | `SessionTurns` | the first stage: what a record does with the sessions, and what the server learns of it |
 //! | `LinkStream`, `LinkRecords` | the second stage: the packets of the one stream of link state, and the edges that follow |
-//! | `Work` | the third stage: the prefixes of a slice or a drain, the cells that change, and the UPDATEs for them |
+//! | `Work` | the third stage: the prefixes of a slice or a drain, the cells that change, and the packed UPDATEs for them |
 //! | `Runs` | what a record does, runs of records, and the headline |
 //! | `WholeFeeds` | octets as a feed: the first fault, the records before it, and the output |
 //!
@@ -18,8 +18,8 @@
 //! least pending prefixes, one after another. There is no code here: each public function is a law with an empty body. Cases
 //! whose outcome is known stand in `meaning_cases`.
 //!
-//! The rule by which changed cells become UPDATEs is `updates_for` of `Work`. The headline rests on it through one law
-//! alone, `carries_all` (`proofs/CarryLemmas.antt`).
+//! Changed cells are sent as packed UPDATEs, `packed` of `rcp_model`. The headline rests on it through one law alone: replayed
+//! after any table, they give each cell its value and leave the other prefixes (`packed_updates_carry_the_cells` there).
 //!
 //! ```text
 //! ensures platform { OnOk result (platform_in self.new ≡ (act (platform_in self.old) item.now).after) }

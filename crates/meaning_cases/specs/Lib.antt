@@ -8,3 +8,4 @@ pub mod FaultCases
 pub mod LinkStateCases
 pub mod LinkStateFeeds
 pub mod PendingFeeds
+pub mod PackedFeeds

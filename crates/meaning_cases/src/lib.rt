@@ -14,6 +14,7 @@
 //! - `link_state_cases`: what packets bring, where framing is lost, and which instance of an LSA is kept how long.
 //! - `instances`: all that is put out for lists of records over networks of three or four routers.
 //! - `link_state_feeds`: the same with link state, lost framing and slices of work.
+//! - `packed_feeds`: feeds in which several prefixes change at once, and which UPDATEs they share.
 //! - `pending_feeds`: feeds that show wrong readings of what is pending, and of what a slice works.
 //! - `feeds`: how feeds of octets end, by their Z or by a fault.
 //!
@@ -27,6 +28,7 @@ pub mod feeds;
 pub mod instances;
 pub mod link_state_cases;
 pub mod link_state_feeds;
+pub mod packed_feeds;
 pub mod pending_feeds;
 pub mod readings;
 pub mod session_cases;

@@ -13,3 +13,4 @@ pub mod Canonical
 pub mod Words
 pub mod Hops
 pub mod Again
+pub mod Texting

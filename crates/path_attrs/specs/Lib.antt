@@ -7,3 +7,4 @@ pub mod Refusals
 pub mod Shown
 pub mod Lists
 pub mod Readings
+pub mod Texts

@@ -8,7 +8,8 @@
 //! is the first one in the order of RFC 4271, section 6.3, with the octets that a NOTIFICATION names. It answers that
 //! there is no memory only for an attribute that is sent on, and never in place of a fault of it or of one in front of it.
 //! [`write`] gives the canonical octets, and [`route`] every field of the route. What is written is read again, with the
-//! same octets and the same route ([`written_is_read_again`]). Writing takes no memory.
+//! same octets and the same route ([`written_is_read_again`]). Writing takes no memory. [`path_text`] is the text of the
+//! path among the octets of a route.
 //!
 //! ```text
 //! let attrs = read(alloc, section, has_nlri)?; // or AttrRefusal::Fault, the first one, or AttrRefusal::NoMemory
@@ -34,6 +35,7 @@ mod reading;
 mod refusal;
 mod routes;
 mod table;
+mod text;
 mod unrecognised;
 mod value;
 mod writing;
@@ -43,6 +45,7 @@ pub use laws::written_is_read_again;
 pub use reading::read;
 pub use refusal::AttrRefusal;
 pub use routes::route;
+pub use text::path_text;
 pub use writing::write;
 
 #[cfg(test)]

@@ -7,6 +7,8 @@ use rcp_model::Route;
 use std::alloc::Global;
 use std::test::Fail;
 
+mod text;
+
 // ORIGIN IGP, the path 65001, NEXT_HOP 10.0.0.1 and LOCAL_PREF 100: 25 octets.
 const LIST: &str = "40010100 4002040201fde9 4003040a000001 40050400000064";
 

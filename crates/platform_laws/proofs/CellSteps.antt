@@ -13,12 +13,13 @@ use Rattle.rcp_model.specs.Sessions.{slot_in}
 use Rattle.rcp_model.specs.Updates.{Table}
 use Rattle.rcp_model.specs.RouteServer.{Domain, Server, Work, table_of, same_octets, offer, announced_at, after, after_all}
 use Rattle.rcp_model.specs.ServerRibs.{Ribs, at_prefix, cell_in, same_values, same_route, ribs_of}
+use Rattle.rcp_model.specs.Packing.{packed}
 use Rattle.rcp_model.proofs.RisingLemmas.{rising-filter}
 use Rattle.rib_laws.proofs.ListLookups.{given_in_tables, get_at-set_at, worked_at}
 use Rattle.rib_laws.proofs.PendingLemmas.{octets_exact}
 use Rattle.feed_meaning.specs.Platform.{Connections}
 use Rattle.feed_meaning.specs.OutRecords.{messages_to}
-use Rattle.feed_meaning.specs.Work.{cell_of, changed_cells, updates_for, slot_updates, updates_sent, work_events}
+use Rattle.feed_meaning.specs.Work.{cell_of, changed_cells, slot_updates, updates_sent, work_events}
 use Rattle.platform_laws.specs.Parts.{AreParts}
 use Rattle.platform_laws.specs.Asked.{given_route, octets_of}
 use Rattle.platform_laws.specs.Work.{is_changed, changed_prefixes, cells_at, updates_to, updates_to_all, AreChanged}
@@ -87,7 +88,7 @@ module _ (roster : RosterOf) (server now : Server) (shards worked : List (Ribs R
 
   slot-sent : (ps : List IpPrefix) (slot : Option ℕ) → slot_updates ps server now slot ≡ updates_to roster ps shards worked slot
   slot-sent ps None = refl
-  slot-sent ps (Some slot) = ap updates_for (slot-cells ps slot)
+  slot-sent ps (Some slot) = ap packed (slot-cells ps slot)
 
   pub all-sent : (ps : List IpPrefix) (connections : Connections) → updates_sent ps server now connections ≡ updates_to_all roster ps shards worked connections
   all-sent ps connections = λ i. flat_map (λ entry. messages_to entry.0 (slot-sent ps (slot_in entry.1.phase) i)) connections

@@ -14,7 +14,8 @@ use Rattle.rcp_model.specs.Sessions.{slot_in}
 use Rattle.rcp_model.specs.ServerRibs.{RibEvent, Work, Ribs, same_values, same_route, ribs_after_all}
 use Rattle.feed_meaning.specs.Platform.{Connections}
 use Rattle.feed_meaning.specs.OutRecords.{MOST, SUMMARY, messages_to, counted}
-use Rattle.feed_meaning.specs.Work.{shard_in, count_in, updates_for}
+use Rattle.rcp_model.specs.Packing.{packed}
+use Rattle.feed_meaning.specs.Work.{shard_in, count_in}
 use Rattle.platform_laws.specs.Parts.{roster_reader, shards_after_all}
 use Rattle.platform_laws.specs.Platforms.{PlatformOf}
 use Rattle.platform_laws.specs.Asked.{given_route, octets_of, rising_of, all_pending, connected_count, announced_count}
@@ -53,7 +54,7 @@ pub record AreChanged (roster : RosterOf) (before now : List (Ribs RouteFields))
 -- what a slot is sent, where there is one
 abbrev pub updates_to : RosterOf → List IpPrefix → List (Ribs RouteFields) → List (Ribs RouteFields) → Option ℕ → List (List ℕ)
 updates_to roster prefixes before now None = []
-updates_to roster prefixes before now (Some slot) = updates_for (cells_at roster now slot (changed_prefixes roster prefixes before now slot))
+updates_to roster prefixes before now (Some slot) = packed (cells_at roster now slot (changed_prefixes roster prefixes before now slot))
 
 -- the UPDATEs to each connection, by rising number
 abbrev pub updates_to_all : RosterOf → List IpPrefix → List (Ribs RouteFields) → List (Ribs RouteFields) → Connections → List OutRecord

@@ -4,34 +4,23 @@
 #![tactic(auto)]
 
 mod standard;
+mod steps;
 
-use outside::Failed;
-use rcp_run::{Status, run};
+use rcp_run::Status;
 use standard::{ReaderSource, WriterSink};
+use std::io;
 use std::io::{BufReader, BufWriter};
 use std::process::ExitCode;
 use std::rt::Env;
 use std::thread::Threads;
-use std::{env, io};
 
-/// Runs the command of the words that follow the program's name.
-fn run_words<R: AllocGlobal + Env + Input + Print + Threads + Sync>(rt: &R) -> Status {
+/// Runs the command of the words that follow the program's name, over standard input and output.
+fn run_program<R: AllocGlobal + Env + Input + Print + Threads + Sync>(rt: &R) -> Status {
     let alloc = rt.alloc();
-    let Ok(args) = env::args(rt) else {
-        return Status::Usage;
+    let words = match steps::words(rt) {
+        Ok(words) => words,
+        Err(status) => return status,
     };
-    let mut owned = Vec::new(alloc);
-    for word in args.skip(1) {
-        if owned.push(word).is_err() {
-            return Status::NoMemory;
-        }
-    }
-    let mut words = Vec::new(alloc);
-    for word in &owned {
-        if words.push(word.as_str()).is_err() {
-            return Status::NoMemory;
-        }
-    }
     let Ok(reader) = BufReader::new(alloc, rt.reader()) else {
         return Status::NoMemory;
     };
@@ -40,17 +29,14 @@ fn run_words<R: AllocGlobal + Env + Input + Print + Threads + Sync>(rt: &R) -> S
     };
     let mut source = ReaderSource::new(reader);
     let mut sink = WriterSink::new(writer);
-    let status = run(rt, alloc, &words, &mut source, &mut sink);
-    match sink.flush() {
-        Err(Failed) if status == Status::Done => Status::Write,
-        _ => status,
-    }
+    steps::run_words(rt, alloc, &words, &mut source, &mut sink)
 }
 
 fn main(rt: HostRuntime) -> ExitCode {
-    let status = run_words(&rt);
-    if status != Status::Done {
-        let _ = eprintln!(rt; "rcp: {status}");
-    }
+    let status = run_program(&rt);
+    let _ = steps::report(status, &mut io::writer(&rt.stderr()));
     ExitCode::from(status.code())
 }
+
+#[cfg(test)]
+mod tests;

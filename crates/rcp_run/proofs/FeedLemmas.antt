@@ -161,3 +161,14 @@ new_number state item passed is =
     let two = passes_first (begins item.kind && leb item.source state.last) why.Twice rest one in
     let fresh : leb item.source state.last ≡ false = rw is at two.0 in
     leb-false _ _ fresh
+
+-- a time isn't below the one before
+pub no_earlier : (state : FeedState) (item : FeedRecord) → first_failing (body_checks state item) ≡ None → is_time item.kind ≡ true → state.moment ≤ moment_of item.body
+no_earlier state item passed is =
+    let late : List (Bool × FeedWhy) = (is_time item.kind && ltb (moment_of item.body) state.moment, why.ClockBack) ∷ [] in
+    let many : List (Bool × FeedWhy) = (begins item.kind && leb 4096 (length state.live), why.TooMany) ∷ late in
+    let one = passes-behind (_ ∷ []) ((begins item.kind && leb item.source state.last, why.Twice) ∷ many) passed in
+    let two = passes_first (begins item.kind && leb item.source state.last) why.Twice many one in
+    let three = passes_first (begins item.kind && leb 4096 (length state.live)) why.TooMany late two.1 in
+    let kept : ltb (moment_of item.body) state.moment ≡ false = rw is at (passes_first (is_time item.kind && ltb (moment_of item.body) state.moment) why.ClockBack [] three.1).0 in
+    ltb-false _ _ kept

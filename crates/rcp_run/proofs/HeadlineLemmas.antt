@@ -1,109 +1,113 @@
--- The records of a feed of octets have octets in their bodies, and the numbers of their connections rise, so the headline
--- holds of them.
-use Rattle.std.proofs.Common.{◌≡◌, ℕ, zero, suc, ◌+◌, ◌<◌, ◌≤◌, true, List, [], ◌∷◌, length, take, drop, is_some, Result, Ok, Err, sym, subst, inl, inr, arith, if◌then◌else◌, All}
-use Rattle.std.specs.List.{AllByRecursion}
-use Rattle.std.proofs.lemmas.Bool.{cases_Bool}
-use Rattle.std.proofs.lemmas.List.Elements.{All-drop, All-take}
-use Rattle.rcp_base.specs.Feed.{FeedState, FeedRecord, Feed, begins, is_finish, length_at, frame_size, before_feeds, after, front, feed_within, feed_of}
-use Rattle.rcp_base.specs.Roster.{FaultyLine}
-use Rattle.rcp_base.specs.Roster.{RosterOf, roster_of}
-use Rattle.feed_meaning.specs.Runs.{NumbersRise}
-use Rattle.rcp_base.specs.Octets.{AreOctets}
-use Rattle.feed_meaning.specs.WholeFeeds.{meaning_by, read_of, with_roster, meaning_of, HeadlineWritten}
-use Rattle.rcp_run.specs.Narrowing.{unread_fault, narrowed}
-use Rattle.rcp_run.proofs.FeedLemmas.{StandsInFront, stands, cases_front, within-last, within-more, within-fault, new_number}
+-- The headline, over the octets that a sink took; and which status the end of a feed gives.
+use Rattle.std.proofs.Common.{◌≡◌, ℕ, ◌+◌, ◌<◌, List, [], ◌∷◌, ◌++◌, length, take, drop, All, Option, Some, None, refl, sym, ap, subst, ◌∙◌, ◌⊎◌, inl, inr, append_assoc}
+use Rattle.std.specs.List.{flat_map, AllByRecursion}
+use Rattle.std.proofs.lemmas.Grind.{flat_map-append}
+use Rattle.std.proofs.lemmas.List.{take-append-drop, append_cancel_left}
+use Rattle.outside.specs.Told.{Rose, behind}
+use Rattle.rcp_base.specs.Feed.{FeedRecord, OutRecord, IsRecord, begins, out_octets}
+use Rattle.rcp_base.specs.Roster.{RosterOf}
+use Rattle.rcp_model.specs.Updates.{replay}
+use Rattle.feed_meaning.specs.Platform.{Platform, fresh}
+use Rattle.feed_meaning.specs.OutRecords.{sent_to}
+use Rattle.feed_meaning.specs.Runs.{act, platform_after, all_output, NumbersRise, Headline}
+use Rattle.feed_meaning.specs.Work.{cell_of}
+use Rattle.feed_meaning.specs.WholeFeeds.{FeedEnd, feed_meaning, outputs}
 use Rattle.feed_meaning.proofs.HeadlineLemmas.{headline}
+use Rattle.feed_format.specs.declared.status.Status.{Status}
+use Rattle.feed_format.specs.declared.status.Status.TheVariants.{Done, Usage, Feed, Roster, Read, Write, NoMemory, NoPath, NetFault}
+use Rattle.rcp_run.specs.Frames.{IsFramed, outs_in}
+use Rattle.rcp_run.specs.Statuses.{HasCause, EndsSo, status_at}
+use Rattle.rcp_run.specs.Written.{output_with}
+use Rattle.rcp_run.specs.Headline.{Gives, GivesBy, HeadlineWritten}
+use Rattle.rcp_run.specs.Going.{AreRead, AreReadWith, Answers}
+use Rattle.rcp_run.proofs.FrameLemmas.{outs-again}
 
--- ---- what the headline asks of records
+-- ---- the first of some records
 
-abbrev HaveOctets : List FeedRecord → Type 0
-HaveOctets items = AllByRecursion (λ item. All (λ o. o < 256) item.body) items
+output-append : (platform : Platform) (items more : List FeedRecord) → all_output platform (items ++ more) ≡ all_output platform items ++ all_output (platform_after platform items) more
+unfolding platform_after all_output
+output-append platform [] more = refl
+output-append platform (item ∷ items) more =
+    ap (λ (outs : List OutRecord). (act platform item).out ++ outs) (output-append (act platform item).after items more)
+    ∙ sym (append_assoc (act platform item).out (all_output (act platform item).after items) (all_output (platform_after (act platform item).after items) more))
 
-record AreNumbered (last : ℕ) (items : List FeedRecord) : Type 0 where
-  pub bodies : HaveOctets items
-  pub numbers : NumbersRise last items
+all_front : {X : Type 0} (P : X → Type 0) (xs ys : List X) → AllByRecursion P (xs ++ ys) → AllByRecursion P xs
+all_front P [] ys h = tt
+all_front P (x ∷ xs) ys h = (h.0, all_front P xs ys h.1)
 
-none_numbered : (last : ℕ) → AreNumbered last []
-none_numbered last = record { bodies = tt; numbers = tt }
+rising_front : (last : ℕ) (xs ys : List FeedRecord) → NumbersRise last (xs ++ ys) → NumbersRise last xs
+rising_front last [] ys h = tt
+rising_front last (x ∷ xs) ys h = (h.0, rising_front _ xs ys h.1)
 
-more_numbered : (last : ℕ) (item : FeedRecord) (items : List FeedRecord) → All (λ o. o < 256) item.body → (begins item.kind ≡ true → last < item.source)
-    → AreNumbered (if begins item.kind then item.source else last) items → AreNumbered last (item ∷ items)
-more_numbered last item items body new rest = record { bodies = (body, rest.bodies); numbers = (new, rest.numbers) }
+read_front : (platform : Platform) (last : ℕ) (xs ys : List FeedRecord) → AreRead platform last (xs ++ ys) → AreRead platform last xs
+read_front platform last xs ys h = record {
+  form = all_front IsRecord xs ys h.form;
+  rising = rising_front last xs ys h.rising;
+  framed = all_front IsFramed (all_output platform xs) (all_output (platform_after platform xs) ys) (subst (AllByRecursion IsFramed) (output-append platform xs ys) h.framed);
+}
 
--- ---- the records of octets
+-- ---- the headline
 
-body_octets : (state : FeedState) (octets : List ℕ) (item : FeedRecord) (rest : List ℕ) → StandsInFront state octets item rest → AreOctets octets → All (λ o. o < 256) item.body
-body_octets state octets item rest h all =
-    subst (λ (i : FeedRecord). All (λ o. o < 256) i.body) h.item_is (All-take (λ o. o < 256) (length_at octets) (drop 9 octets) (All-drop (λ o. o < 256) 9 octets all))
+bodies : (items : List FeedRecord) → AllByRecursion IsRecord items → AllByRecursion (λ item. All (λ o. o < 256) item.body) items
+bodies [] form = tt
+bodies (item ∷ items) form = (form.0.octets, bodies items form.1)
 
-rest_octets : (state : FeedState) (octets : List ℕ) (item : FeedRecord) (rest : List ℕ) → StandsInFront state octets item rest → AreOctets octets → AreOctets rest
-rest_octets state octets item rest h all = subst AreOctets h.rest_is (All-drop (λ o. o < 256) (frame_size octets) octets all)
+-- records that were read, and their output
+gives_read : (roster : RosterOf) (items : List FeedRecord) → AreRead (fresh roster) 0 items → Gives roster items (outputs roster items)
+gives_read roster items h = λ number slot p at pending.
+    ap (λ (outs : List OutRecord). cell_of (Some (replay (sent_to number outs))) p) (outs-again (all_output (fresh roster) items) h.framed)
+    ∙ headline roster items (bodies items h.form) h.rising number slot p at pending
 
-none_within : (state : FeedState) (octets : List ℕ) → AreNumbered state.last (feed_within zero state octets).items
-unfolding feed_within
-none_within state octets = none_numbered state.last
+gives_front : (roster : RosterOf) (items : List FeedRecord) (part : List ℕ) → AreRead (fresh roster) 0 items → (count : ℕ) → GivesBy roster (take count items) (outputs roster items ++ part)
+gives_front roster items part h count =
+    let first = take count items in
+    let rest = drop count items in
+    let all : items ≡ take count items ++ drop count items = sym (take-append-drop count items) in
+    let later = flat_map out_octets (all_output (platform_after (fresh roster) first) rest) in
+    record {
+      front = outputs roster first;
+      output = refl;
+      later = later ++ part;
+      parts = ap (λ (l : List ℕ). l ++ part)
+          (ap (outputs roster) all ∙ ap (flat_map out_octets) (output-append (fresh roster) first rest) ∙ flat_map-append out_octets (all_output (fresh roster) first) (all_output (platform_after (fresh roster) first) rest))
+          ∙ append_assoc (outputs roster first) later part;
+      gives = gives_read roster first (read_front (fresh roster) 0 first rest (subst (AreRead (fresh roster) 0) all h));
+    }
 
-within_numbered : (most : ℕ) (state : FeedState) (octets : List ℕ) → AreOctets octets → AreNumbered state.last (feed_within most state octets).items
-within_numbered zero state octets all = none_within state octets
-within_numbered (suc most) state octets all =
-    elim (cases_front (front state octets)) [
-      | inl (item, rest, e) ↦
-          let known = stands state octets item rest e in
-          let body = body_octets state octets item rest known all in
-          let new = new_number state item known.checked in
-          elim (cases_Bool (is_finish item.kind)) [
-            | inl last ↦ subst (λ (f : Feed). AreNumbered state.last f.items) (sym (within-last most state octets item rest e last))
-                (more_numbered state.last item [] body new (none_numbered _))
-            | inr further ↦ subst (λ (f : Feed). AreNumbered state.last f.items) (sym (within-more most state octets item rest e further))
-                (more_numbered state.last item (feed_within most (after state item) rest).items body new (within_numbered most (after state item) rest (rest_octets state octets item rest known all)))
-          ]
-      | inr (fault, e) ↦ subst (λ (f : Feed). AreNumbered state.last f.items) (sym (within-fault most state octets fault e)) (none_numbered state.last)
-    ]
+known_of : (roster : RosterOf) (found : Option RosterOf) (items : List FeedRecord) → found ≡ Some roster → AreReadWith found items → AreRead (fresh roster) 0 items
+known_of roster found items is h = rw is at h
 
--- ---- fronts of them
+wrote_of : (roster : RosterOf) (found : Option RosterOf) (items : List FeedRecord) (part before written : List ℕ) → found ≡ Some roster
+    → Some (before ++ written) ≡ behind (Some before) (output_with found items ++ part) → written ≡ outputs roster items ++ part
+wrote_of roster found items part before written is wrote =
+    let same : before ++ written ≡ before ++ (output_with found items ++ part) = cc in
+    append_cancel_left before written (output_with found items ++ part) same ∙ ap (λ (o : Option RosterOf). output_with o items ++ part) is
 
-read_numbered : (roster : RosterOf) (last : ℕ) (items : List FeedRecord) → AreNumbered last items → AreNumbered last (read_of (unread_fault roster) items)
-read_numbered roster last [] h = h
-read_numbered roster last (item ∷ items) h =
-    elim (cases_Bool (is_some (unread_fault roster item))) [
-      | inl e ↦ rw e (none_numbered last)
-      | inr e ↦ rw e (more_numbered last item (read_of (unread_fault roster) items) h.bodies.0 h.numbers.0
-          (read_numbered roster (if begins item.kind then item.source else last) items (record { bodies = h.bodies.1; numbers = h.numbers.1 })))
-    ]
+pub headline-written : (status : Status) (roster : RosterOf) (octets before written : List ℕ) (now taken_old taken_new : Option (List ℕ)) → (feed_meaning octets).roster ≡ Some roster
+    → taken_old ≡ Some before → taken_new ≡ Some (before ++ written) → Answers status octets now taken_old taken_new → HeadlineWritten status roster octets now written
+headline-written status roster octets before written now taken_old taken_new found old new h =
+    let w = h.wrote in
+    let wrote : Some (before ++ written) ≡ behind (Some before) (output_with (feed_meaning octets).roster w.items ++ w.part) =
+    sym new ∙ w.wrote ∙ ap (λ (t : Option (List ℕ)). behind t (output_with (feed_meaning octets).roster w.items ++ w.part)) old in
+    record {
+      taken = w.taken;
+      takes = w.takes;
+      items = w.items;
+      answered = w.answered;
+      each = λ count. subst (GivesBy roster (take count w.items)) (sym (wrote_of roster (feed_meaning octets).roster w.items w.part before written found wrote))
+          (gives_front roster w.items w.part (known_of roster (feed_meaning octets).roster w.items found h.known) count);
+    }
 
-take_numbered : (count last : ℕ) (items : List FeedRecord) → AreNumbered last items → AreNumbered last (take count items)
-take_numbered zero last items h = none_numbered last
-take_numbered (suc count) last [] h = none_numbered last
-take_numbered (suc count) last (item ∷ items) h =
-    more_numbered last item (take count items) h.bodies.0 h.numbers.0
-    (take_numbered count (if begins item.kind then item.source else last) items (record { bodies = h.bodies.1; numbers = h.numbers.1 }))
+-- ---- the status of a feed's end
 
--- numbers that rise from one rise from a lower one
-rises_below : (low last : ℕ) (items : List FeedRecord) → low ≤ last → NumbersRise last items → NumbersRise low items
-rises_below low last [] le h = tt
-rises_below low last (item ∷ items) le h = (
-  λ is. let above : last < item.source = h.0 is in omega (arith, le, above),
-  elim (cases_Bool (begins item.kind)) [
-    | inl e ↦ rw e (rw e at h.1)
-    | inr e ↦ rw e (rises_below low last items le (rw e at h.1))
-  ],
-)
-
--- ---- a whole feed
-
-roster_numbered : (feed : Feed) (items : List FeedRecord) (found : Result RosterOf FaultyLine) → AreNumbered 0 items → AreNumbered 0 (with_roster unread_fault feed 1 items found).items
-roster_numbered feed items (Ok roster) h = read_numbered roster 0 items h
-roster_numbered feed items (Err fault) h = none_numbered 0
-
-meaning_numbered : (feed : Feed) (items : List FeedRecord) → AreNumbered 0 items → AreNumbered 0 (meaning_of unread_fault 1 feed items).items
-meaning_numbered feed [] h = h
-meaning_numbered feed (first ∷ items) h =
-    roster_numbered feed items (roster_of first.body)
-    (record { bodies = h.bodies.1; numbers = rises_below 0 (if begins first.kind then first.source else 0) items (omega arith) h.numbers.1 })
-
-pub headline_of : (octets written : List ℕ) → AreOctets octets → HeadlineWritten (narrowed octets) written
-unfolding meaning_by
-headline_of octets written all roster count more is whole =
-    let feed = feed_of before_feeds octets in
-    let numbered = take_numbered count 0 (narrowed octets).items (meaning_numbered feed feed.items (within_numbered (length octets + 1) before_feeds octets all)) in
-    headline roster (take count (narrowed octets).items) numbered.bodies numbered.numbers
+pub completes : (status : Status) (end : FeedEnd) (a b c d : ℕ) → HasCause status a b c d → EndsSo status end → (Rose a b → ⊥) → (Rose c d → ⊥)
+    → (status ≡ status_at end) ⊎ (status ≡ NoMemory)
+completes Done end a b c d cause ended read write = inl (sym (ap status_at ended))
+completes Usage end a b c d cause ended read write = absurd cause
+completes (Feed number why) end a b c d cause ended read write = inl (sym (ap status_at ended))
+completes (Roster number line why) end a b c d cause ended read write = inl (sym (ap status_at ended))
+completes Read end a b c d cause ended read write = absurd (read cause)
+completes Write end a b c d cause ended read write = absurd (write cause)
+completes NoMemory end a b c d cause ended read write = inr refl
+completes (NoPath refused) end a b c d cause ended read write = absurd cause
+completes NetFault end a b c d cause ended read write = absurd cause

@@ -4,7 +4,7 @@ use Rattle.std.specs.List.{AllByRecursion}
 use Rattle.std.proofs.lemmas.Bool.{cases_Bool, eqb-true, true≢false}
 use Rattle.rcp_base.specs.declared.kinds.Kind.{Kind}
 use Rattle.rcp_base.specs.declared.kinds.Kind.TheVariants as kind
-use Rattle.rcp_base.specs.Feed.{FeedRecord, begins, moment_of}
+use Rattle.rcp_base.specs.Feed.{FeedRecord, begins, is_time, moment_of}
 use Rattle.rcp_base.specs.Maps.{put_at, set_at, without}
 use Rattle.rcp_model.specs.LinkState.{same_number}
 use Rattle.rcp_model.specs.Sessions.{SessionState, Answer, Moment, End}
@@ -143,3 +143,46 @@ act-numbers last platform item new all =
 pub all_below : (last number : ℕ) (connections : Connections) → last < number → AllByRecursion (λ entry. entry.0 ≤ last) connections → AllByRecursion (λ entry. entry.0 < number) connections
 all_below last number [] above all = tt
 all_below last number (entry ∷ entries) above all = (omega (arith, above, all.0), all_below last number entries above all.1)
+
+-- ---- time
+
+after-moment : (turns : List Turn) (platform : Platform) → (after_turns turns platform).moment ≡ platform.moment
+after-moment [] platform = refl
+after-moment (turn ∷ turns) platform = after-moment turns (after_turn turn platform)
+
+stream-moment : (stream : LinkStream) (body : List ℕ) (platform : Platform) → (stream_act stream body platform).after.moment ≡ platform.moment
+stream-moment (Reading held place) body platform = refl
+stream-moment Lost body platform = refl
+
+links-moment : (platform : Platform) (body : List ℕ) (k : Kind) → (links_act platform body k).after.moment ≡ platform.moment
+links-moment platform body kind.Links = stream-moment platform.stream body platform
+links-moment platform body kind.Time = refl
+links-moment platform body kind.Roster = refl
+links-moment platform body kind.Ready = refl
+links-moment platform body kind.Raw = refl
+links-moment platform body kind.Octets = refl
+links-moment platform body kind.Closed = refl
+links-moment platform body kind.Slice = refl
+links-moment platform body kind.Drain = refl
+links-moment platform body kind.Finish = refl
+
+work-moment : (platform : Platform) (body : List ℕ) (k : Kind) → (work_act platform body k).after.moment ≡ platform.moment
+work-moment platform body kind.Slice = refl
+work-moment platform body kind.Drain = refl
+work-moment platform body kind.Roster = refl
+work-moment platform body kind.Ready = refl
+work-moment platform body kind.Raw = refl
+work-moment platform body kind.Octets = refl
+work-moment platform body kind.Closed = refl
+work-moment platform body kind.Links = refl
+work-moment platform body kind.Time = refl
+work-moment platform body kind.Finish = refl
+
+-- the platform's time is the record's, or stays
+pub act-moment : (platform : Platform) (item : FeedRecord) → (act platform item).after.moment ≡ (if is_time item.kind then moment_of item.body else platform.moment)
+unfolding act
+act-moment platform item =
+    let turned = turns_act platform item in
+    work-moment (links_act turned.after item.body item.kind).after item.body item.kind
+    ∙ links-moment turned.after item.body item.kind
+    ∙ after-moment (record_turns platform item) (noted item platform)

@@ -1,5 +1,7 @@
-pub mod Narrowing
-pub mod Records
-pub mod State
+pub mod Commands
+pub mod Frames
+pub mod Statuses
+pub mod Written
+pub mod Headline
+pub mod Going
 pub mod Turns
-pub mod Answers

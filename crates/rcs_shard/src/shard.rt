@@ -3,8 +3,9 @@
 ghost use Rattle.std.specs.Prelude.{◌≡◌, ◌<◌, ◌==◌, ◌≢◌, ◌↔◌, true, false, length, is_some, IsTrue, Some, None, IfOk, OnOk, OnErr, IfSome, MatchOption, option_map};
 ghost use Rattle.std.specs.FinSet as set_of;
 ghost use Rattle.rcp_base.specs.IpPrefix.{shard_of_prefix};
+ghost use Rattle.rcp_model.specs.Graphs.{AreMembers};
 ghost use Rattle.rcp_model.specs.Routes.{is_usable};
-ghost use Rattle.rcp_model.specs.ServerRibs.{Up, Down, Change, Links, Work};
+ghost use Rattle.rcp_model.specs.ServerRibs.{Up, Down, Change, Links, Work, prefixes_of};
 ghost use Rattle.rcs_shard.specs.Shards.{new_shard, is_connected, is_pending, announced_at, given_at, IsLeastPending, IsLeastDirty, IsNextAnnounced, IsNextGiven, acted, taken};
 
 use crate::classes::find_classes;
@@ -95,9 +96,10 @@ impl Shard {
         self.number
     }
 
-    /// The members of the roster, by slot.
+    /// The members of the roster, by slot: at most 512, no two of which have one router ID or one BGP Identifier.
     pub fn members(&self) -> &[Member]
-        ensures { result.now ≡ self.now.members }
+        ensures members { result.now ≡ self.now.members }
+        ensures distinct { AreMembers self.now.members }
     {
         let view: &View = &self.view;
         view.members()
@@ -110,10 +112,9 @@ impl Shard {
         shard_of(p, self.shards) == self.number
     }
 
-    /// The slot is connected from now on, with an empty table. It isn't connected before. It goes over all announcements.
+    /// The slot is connected from now on, with an empty table. It goes over all announcements. A slot that is connected already keeps what it announces.
     pub fn up(&mut self, slot: Slot)
-        requires member { slot < length self.old.members }
-        requires down { is_connected self.old slot ≡ false }
+        requires { slot < length self.old.members }
         ensures { self.new ≡ acted (Up slot) self.old }
     {
         mark_all(&self.ribs, &mut self.pending);
@@ -206,6 +207,13 @@ impl Shard {
         ensures { result ≡ set_of.len self.now.ribs.pending }
     {
         self.pending.count()
+    }
+
+    /// How many prefixes some slot announces. It takes constant time.
+    pub fn announced(&self) -> u64
+        ensures { result ≡ set_of.len (prefixes_of (λ e. true) self.now.ribs.announced) }
+    {
+        self.ribs.prefixes()
     }
 
     /// Whether a prefix is pending.

@@ -1,9 +1,11 @@
 -- What is named stays in form, line after line.
-use Rattle.std.proofs.Common.{◌≡◌, ◌≢◌, ℕ, ◌<◌, ◌≤◌, Bool, true, false, not, cond, eqb, nat_le, ◌&&◌, ◌||◌, List, [], ◌∷◌, ◌++◌, length, get_or, All, Option, Some, None, is_some, IfSome, Result, Ok, Err, IfOk, option_and_then, refl, sym, ap, subst, ◌∙◌, true≢false, arith, length-append, append_assoc, bytes_eq, codes}
+use Rattle.std.proofs.Common.{◌≡◌, ◌≢◌, ℕ, ◌<◌, ◌≤◌, Bool, true, false, not, cond, eqb, nat_le, ◌&&◌, ◌||◌, List, [], ◌∷◌, ◌++◌, length, get_or, All, Option, Some, None, is_some, IfSome, Result, Ok, Err, IfOk, inl, inr, option_and_then, refl, sym, ap, subst, ◌∙◌, true≢false, arith, length-append, append_assoc, bytes_eq, codes}
 use Rattle.std.proofs.lemmas.Bool.{cond_both, eqb-false, eq-eqb, leb-true, leb-false}
 use Rattle.std.proofs.lemmas.Option.{IfSome_then}
 use Rattle.std.proofs.lemmas.List.Folds.{list_any-append, list_any_at}
-use Rattle.std.proofs.lemmas.List.Elements.{All-push}
+use Rattle.std.proofs.lemmas.List.Elements.{All-push, Contains-append_left, Contains-append_right, Contains-append_cases}
+use Rattle.rcp_model.specs.Costs.{IsTwoWay}
+use Rattle.rcp_model.proofs.MemberLemmas.{Contains-head, Contains-tail, Contains-cases, Contains-none}
 use Rattle.std.proofs.lemmas.List.Quantifiers.{all_pairs_push}
 use Rattle.std.specs.List.{list_any}
 use Rattle.rcp_base.specs.declared.kinds.RosterWhy.{RosterWhy}
@@ -167,23 +169,47 @@ still_own members m None h e = tt
 still_own members m (Some id) h e =
     list_any-append (λ (n : Member). eqb n.bgp_id id) members (m ∷ []) ∙ ap (λ t. t || (eqb m.bgp_id id || false)) h ∙ ap (λ t. t || false) (eqb-turned m.bgp_id id ∙ e)
 
+-- a link forth and back joins links that are there in both directions
+both_ways : (links : List Edge) (forth back : Edge) → IsTwoWay links → back.from ≡ forth.to → back.to ≡ forth.from → IsTwoWay (links ++ forth ∷ back ∷ [])
+both_ways links forth back old from to link inside = elim (Contains-append_cases links (forth ∷ back ∷ []) link inside) [
+  | inl first ↦ let found = old link first in (found.0, Contains-append_left links (forth ∷ back ∷ []) found.0 found.1, found.2, found.3)
+  | inr more ↦ elim (Contains-cases forth (back ∷ []) link more) [
+    | inl is ↦ (
+      back,
+      Contains-append_right links (forth ∷ back ∷ []) back (Contains-tail forth (back ∷ []) back (Contains-head back [])),
+      from ∙ ap (λ (l : Edge). l.to) is,
+      to ∙ ap (λ (l : Edge). l.from) is,
+    )
+    | inr last ↦ elim (Contains-cases back [] link last) [
+      | inl is ↦ (
+        forth,
+        Contains-append_right links (forth ∷ back ∷ []) forth (Contains-head forth (back ∷ [])),
+        sym to ∙ ap (λ (l : Edge). l.to) is,
+        sym from ∙ ap (λ (l : Edge). l.from) is,
+      )
+      | inr none ↦ absurd (Contains-none link none)
+    ]
+  ]
+]
+
 not_false : (t : Bool) → not t ≡ false → t ≡ true
 not_false true e = refl
 not_false false e = absurd (true≢false e)
 
 kept : (named : Named) (line : Line) → NamedInForm named → LineInForm line → IsFaultless named line → NamedInForm (with_line named line)
-kept named (As n) form said none = record { as_number = said; shards = form.shards; hold = form.hold; members = form.members; own = form.own; links = form.links }
+kept named (As n) form said none = record { as_number = said; shards = form.shards; hold = form.hold; members = form.members; own = form.own; links = form.links; two_way = form.two_way }
 kept named (Id a) form said none = record {
   as_number = form.as_number;
   shards = form.shards;
   hold = form.hold;
   members = form.members;
   links = form.links;
+  two_way = form.two_way;
   own = (none_true (is_some named.id) (has_identifier named.members a) none.once).1;
 }
-kept named (Shards n) form said none = record { as_number = form.as_number; shards = said; hold = form.hold; members = form.members; own = form.own; links = form.links }
-kept named (Hold n) form said none = record { as_number = form.as_number; shards = form.shards; hold = said; members = form.members; own = form.own; links = form.links }
-kept named (Area a) form said none = record { as_number = form.as_number; shards = form.shards; hold = form.hold; members = form.members; own = form.own; links = form.links }
+kept named (Shards n) form said none = record { as_number = form.as_number; shards = said; hold = form.hold; members = form.members; own = form.own; links = form.links; two_way = form.two_way }
+kept named (Hold n) form said none = record { as_number = form.as_number; shards = form.shards; hold = said; members = form.members; own = form.own; links = form.links; two_way = form.two_way }
+kept named (Area a) form said none = record { as_number = form.as_number; shards = form.shards; hold = form.hold; members = form.members; own = form.own; links = form.links; two_way = form.two_way }
 kept named (Router router id) form said none =
     let m : Member = record { router = router; bgp_id = id } in
     let first = none_true (has_router named.members router || has_identifier named.members id) (is_value id named.id) none.once in
@@ -195,6 +221,7 @@ kept named (Router router id) form said none =
       members = more_members named.members m form.members (record { router = said.0; identifier = said.1 }) names.0 names.1 none.few;
       own = still_own named.members m named.id form.own first.1;
       links = still_links named.members (m ∷ []) named.links form.links;
+      two_way = form.two_way;
     }
 kept named (Link u v cost) form said none =
     let ends = both_true (has_router named.members u) (has_router named.members v) (not_false _ none.known) in
@@ -211,6 +238,7 @@ kept named (Link u v cost) form said none =
       members = form.members;
       own = form.own;
       links = subst (λ links. All P links) (append_assoc named.links (forth ∷ []) (back ∷ [])) two_more;
+      two_way = both_ways named.links forth back form.two_way refl refl;
     }
 
 text_form : (named : Named) (said : Result Line RosterWhy) → NamedInForm named → SaysForm said
@@ -234,6 +262,7 @@ none_named = record {
   own = tt;
   members = record { few = omega arith; names = λ k d h. absurd (omega arith); routers = λ i j d a b. absurd (omega arith); identifiers = λ i j d a b. absurd (omega arith) };
   links = λ k d h. absurd (omega arith);
+  two_way = λ link inside. absurd (Contains-none link inside);
 }
 
 -- ---- the roster of what is named
@@ -247,4 +276,5 @@ settled_form settings named members edges e f are form = record {
   members = subst AreMembers (sym e) form.members;
   own = ap (λ (ms : List Member). has_identifier ms settings.id) e ∙ subst (λ o. IfSome o (λ id. has_identifier named.members id ≡ false)) are.id form.own;
   links = subst (λ ms. All (IsLinkOf ms) edges) (sym e) (subst (λ links. All (IsLinkOf named.members) links) (sym f) form.links);
+  two_way = subst IsTwoWay (sym f) form.two_way;
 }

@@ -1,8 +1,9 @@
--- Rosters in form: the ranges of the settings, names that are named once, and links of named routers.
+-- Rosters in form: the ranges of the settings, names that are named once, and links of named routers in both directions.
 use Rattle.std.specs.Prelude.{◌≡◌, ◌≢◌, ℕ, ◌≤◌, false, true, List, length, All, AllPairs, IfSome}
 use Rattle.rcp_base.specs.declared.names.Member.{Member}
 use Rattle.rcp_base.specs.declared.names.Edge.{Edge}
 use Rattle.rcp_base.specs.Roster.{Named, RosterOf, has_router, has_identifier}
+use Rattle.rcp_model.specs.Costs.{IsTwoWay}
 
 -- 23456 stands for the AS numbers that two octets don't hold (RFC 6793)
 pub record IsAsNumber (n : ℕ) : Type 0 where
@@ -48,6 +49,7 @@ pub record InForm (roster : RosterOf) : Type 0 where
   pub members : AreMembers roster.members
   pub own : has_identifier roster.members roster.id ≡ false
   pub links : All (IsLinkOf roster.members) roster.links
+  pub two_way : IsTwoWay roster.links
 
 -- the same of what is named before the last line
 pub record NamedInForm (named : Named) : Type 0 where
@@ -57,3 +59,4 @@ pub record NamedInForm (named : Named) : Type 0 where
   pub members : AreMembers named.members
   pub own : IfSome named.id (λ id. has_identifier named.members id ≡ false)
   pub links : All (IsLinkOf named.members) named.links
+  pub two_way : IsTwoWay named.links

@@ -1,331 +1,92 @@
-//! Sessions that open, expire and fall, and octets in any pieces.
+//! Sessions that open, expire and fall (RFC 4271 sections 6 and 8), and octets in any pieces.
 
 ghost use Rattle.std.specs.Prelude.{◌<◌};
 
-use super::{
-    CONNECTED, Case, DECIDED, DRAIN, FROM_A, FROM_C, MARKER, ONE, ONLY_ROSTER, Record, SENT, TWO,
-    ZERO, add, done, joined, octets_of, written,
-};
-use std::alloc::Global;
+use super::text::{add, octets_of};
+use super::{CONNECTED, Row, SENT, check, done, same};
 use std::test::Fail;
 
-// The platform's OPEN (RFC 4271 section 4.2): AS 65000, hold time 90, BGP Identifier 10.0.0.254.
-const OPEN: &[&[u8]] = &[MARKER, &[0, 29, 1, 4, 0xfd, 0xe8, 0, 90, 10, 0, 0, 254, 0]];
-
-const KEEPALIVE: &[&[u8]] = &[MARKER, &[0, 19, 4]];
-
-// A's OPEN with the hold time 30 and a parameter of capabilities.
-const OPEN_OF_A: &[&[u8]] = &[
-    MARKER,
-    &[
-        0, 37, 1, 4, 0xfd, 0xe8, 0, 30, 10, 0, 0, 1, 8, 2, 6, 1, 4, 0, 1, 0, 1,
-    ],
-];
-
-// A's session comes up on connection 1.
-const OPENED: &[Record] = &[(b'U', 1, &[]), (b'B', 1, OPEN_OF_A), (b'B', 1, KEEPALIVE)];
-
-const ANSWERED: &[Record] = &[(b'B', 1, OPEN), (b'B', 1, KEEPALIVE)];
-
-const NO_SUMMARY: Record = (b'S', 0, &[ZERO, ZERO, ZERO]);
-
-const ONE_ROUTER: Record = (b'S', 0, &[ONE, ZERO, ZERO]);
-
-// A connection that sends before it opens, and the platform's OPEN.
-const RAW: Record = (b'U', 1, &[]);
-
-const LOST: &[Case] = &[
+const LOST: &[Row] = &[
     (
         "a lost session takes its routes along",
-        &[
-            DECIDED,
-            &[(b'B', 1, &[MARKER, &[0, 52, 2]]), (b'X', 1, &[]), DRAIN],
-        ],
-        &[
-            SENT,
-            &[
-                (b'X', 1, &[&[3, 0, 0]]),
-                (b'B', 2, FROM_C),
-                (b'S', 0, &[TWO, ONE, TWO]),
-            ],
-        ],
+        "C 0 LINKED; E 1 A; E 2 B; E 3 C; B 1 UA; B 3 UC; D 0; B 1 M 0034 02 0000 0019 40010100 400204; X 1; D 0;",
+        "B 2 UA; S 0 3 1 1; X 1 030000; B 2 UC; S 0 2 1 2;",
     ),
     (
         "a router that notifies is not answered and may connect anew",
-        &[
-            DECIDED,
-            &[
-                (b'B', 1, &[MARKER, &[0, 21, 3, 6, 4]]),
-                (b'U', 4, &[]),
-                (b'B', 4, OPEN_OF_A),
-                (b'B', 4, KEEPALIVE),
-                (b'B', 4, FROM_A),
-                DRAIN,
-            ],
-        ],
-        &[
-            SENT,
-            &[
-                (b'X', 1, &[&[2, 6, 4]]),
-                (b'B', 4, OPEN),
-                (b'B', 4, KEEPALIVE),
-                (b'S', 0, &[&[0, 0, 0, 0, 0, 0, 0, 3], ONE, ONE]),
-            ],
-        ],
-    ),
-];
-
-#[test]
-fn lost_sessions_take_their_routes_along(rt: HostRuntime) -> Result<(), Fail> {
-    for (shows, fed, wanted) in LOST {
-        let found = written(&rt, rt.alloc(), fed)?;
-        let wanted = octets_of(rt.alloc(), wanted)?;
-        assert_eq!(rt; found.as_slice(), wanted.as_slice(), "{shows}");
-    }
-    Ok(())
-}
-
-const HEADERS: &[Case] = &[
-    (
-        "a header of 18 octets is answered with its length",
-        &[
-            ONLY_ROSTER,
-            &[RAW, (b'B', 1, &[MARKER, &[0, 18]]), (b'B', 1, &[&[4]])],
-        ],
-        &[&[
-            (b'B', 1, OPEN),
-            (b'B', 1, &[MARKER, &[0, 23, 3, 1, 2, 0, 18]]),
-            (b'X', 1, &[&[1, 1, 2]]),
-        ]],
+        "C 0 LINKED; E 1 A; E 2 B; E 3 C; B 1 UA; B 3 UC; D 0; B 1 M 0015 03 0604; \
+         U 4; B 4 OPEN_A; B 4 KEEPALIVE; B 4 UA; D 0;",
+        "B 2 UA; S 0 3 1 1; X 1 020604; B 4 OPEN; B 4 KEEPALIVE; S 0 3 1 1;",
     ),
     (
-        "a header of 4,097 octets is answered with its length",
-        &[
-            ONLY_ROSTER,
-            &[RAW, (b'B', 1, &[MARKER, &[16, 1]]), (b'B', 1, &[&[2]])],
-        ],
-        &[&[
-            (b'B', 1, OPEN),
-            (b'B', 1, &[MARKER, &[0, 23, 3, 1, 2, 16, 1]]),
-            (b'X', 1, &[&[1, 1, 2]]),
-        ]],
-    ),
-    (
-        "a KEEPALIVE of 20 octets is answered with its length",
-        &[
-            ONLY_ROSTER,
-            &[RAW, (b'B', 1, &[MARKER, &[0, 20]]), (b'B', 1, &[&[4]])],
-        ],
-        &[&[
-            (b'B', 1, OPEN),
-            (b'B', 1, &[MARKER, &[0, 23, 3, 1, 2, 0, 20]]),
-            (b'X', 1, &[&[1, 1, 2]]),
-        ]],
-    ),
-];
-
-#[test]
-fn faulty_header_is_answered_with_its_length(rt: HostRuntime) -> Result<(), Fail> {
-    for (shows, fed, wanted) in HEADERS {
-        let found = written(&rt, rt.alloc(), fed)?;
-        let wanted = octets_of(rt.alloc(), wanted)?;
-        assert_eq!(rt; found.as_slice(), wanted.as_slice(), "{shows}");
-    }
-    Ok(())
-}
-
-const OPENS: &[Case] = &[
-    (
-        "an OPEN with a hold time of 2 seconds is refused",
-        &[
-            ONLY_ROSTER,
-            &[
-                RAW,
-                (
-                    b'B',
-                    1,
-                    &[MARKER, &[0, 29, 1], &[4, 0xfd, 0xe8, 0, 2, 10, 0, 0, 1, 0]],
-                ),
-                (b'X', 1, &[]),
-            ],
-        ],
-        &[&[
-            (b'B', 1, OPEN),
-            (b'B', 1, &[MARKER, &[0, 21, 3, 2, 6]]),
-            (b'X', 1, &[&[1, 2, 6]]),
-        ]],
-    ),
-    (
-        "an OPEN of a router that is no member is refused",
-        &[
-            ONLY_ROSTER,
-            &[
-                RAW,
-                (
-                    b'B',
-                    1,
-                    &[MARKER, &[0, 29, 1], &[4, 0xfd, 0xe8, 0, 30, 10, 0, 0, 9, 0]],
-                ),
-                (b'X', 1, &[]),
-            ],
-        ],
-        &[&[
-            (b'B', 1, OPEN),
-            (b'B', 1, &[MARKER, &[0, 21, 3, 2, 3]]),
-            (b'X', 1, &[&[1, 2, 3]]),
-        ]],
-    ),
-    (
-        "an OPEN of another AS is refused",
-        &[
-            ONLY_ROSTER,
-            &[
-                RAW,
-                (
-                    b'B',
-                    1,
-                    &[MARKER, &[0, 29, 1], &[4, 0xfd, 0xe9, 0, 30, 10, 0, 0, 1, 0]],
-                ),
-                (b'X', 1, &[]),
-            ],
-        ],
-        &[&[
-            (b'B', 1, OPEN),
-            (b'B', 1, &[MARKER, &[0, 21, 3, 2, 2]]),
-            (b'X', 1, &[&[1, 2, 2]]),
-        ]],
-    ),
-];
-
-#[test]
-fn faulty_open_is_refused(rt: HostRuntime) -> Result<(), Fail> {
-    for (shows, fed, wanted) in OPENS {
-        let found = written(&rt, rt.alloc(), fed)?;
-        let wanted = octets_of(rt.alloc(), wanted)?;
-        assert_eq!(rt; found.as_slice(), wanted.as_slice(), "{shows}");
-    }
-    Ok(())
-}
-
-const FIRST: &[Case] = &[
-    (
-        "an OPEN of version 3 is refused",
-        &[
-            ONLY_ROSTER,
-            &[
-                RAW,
-                (
-                    b'B',
-                    1,
-                    &[MARKER, &[0, 29, 1], &[3, 0xfd, 0xe8, 0, 30, 10, 0, 0, 1, 0]],
-                ),
-                (b'X', 1, &[]),
-            ],
-        ],
-        &[&[
-            (b'B', 1, OPEN),
-            (b'B', 1, &[MARKER, &[0, 23, 3, 2, 1, 0, 4]]),
-            (b'X', 1, &[&[1, 2, 1]]),
-        ]],
-    ),
-    (
-        "an UPDATE before an OPEN is refused",
-        &[ONLY_ROSTER, &[RAW, (b'B', 1, FROM_A), DRAIN]],
-        &[&[
-            (b'B', 1, OPEN),
-            (b'B', 1, &[MARKER, &[0, 21, 3, 5, 0]]),
-            (b'X', 1, &[&[1, 5, 0]]),
-            NO_SUMMARY,
-        ]],
-    ),
-];
-
-#[test]
-fn first_message_is_an_open_of_version_4(rt: HostRuntime) -> Result<(), Fail> {
-    for (shows, fed, wanted) in FIRST {
-        let found = written(&rt, rt.alloc(), fed)?;
-        let wanted = octets_of(rt.alloc(), wanted)?;
-        assert_eq!(rt; found.as_slice(), wanted.as_slice(), "{shows}");
-    }
-    Ok(())
-}
-
-const LATER: &[Case] = &[
-    (
-        "a silent session expires",
-        &[
-            ONLY_ROSTER,
-            OPENED,
-            &[
-                (b'T', 0, &[&[0, 0, 0, 0, 0, 0, 0, 9]]),
-                DRAIN,
-                (b'T', 0, &[&[0, 0, 0, 0, 0, 0, 0, 10]]),
-                DRAIN,
-                (b'T', 0, &[&[0, 0, 0, 0, 0, 0, 0, 29]]),
-                DRAIN,
-                (b'T', 0, &[&[0, 0, 0, 0, 0, 0, 0, 30]]),
-                DRAIN,
-            ],
-        ],
-        &[
-            ANSWERED,
-            &[
-                ONE_ROUTER,
-                (b'B', 1, KEEPALIVE),
-                ONE_ROUTER,
-                (b'B', 1, KEEPALIVE),
-                ONE_ROUTER,
-                (b'B', 1, &[MARKER, &[0, 21, 3, 4, 0]]),
-                (b'X', 1, &[&[1, 4, 0]]),
-                NO_SUMMARY,
-            ],
-        ],
+        "a silent session expires, and sends a KEEPALIVE each third of the hold time before",
+        "C 0 LINKED; U 1; B 1 OPEN_A; B 1 KEEPALIVE; T 0 9; D 0; T 0 a; D 0; \
+         T 0 000000000000001d; D 0; T 0 000000000000001e; D 0;",
+        "B 1 OPEN; B 1 KEEPALIVE; S 0 1 0 0; B 1 KEEPALIVE; S 0 1 0 0; \
+         B 1 KEEPALIVE; S 0 1 0 0; B 1 M 0015 03 0400; X 1 010400; S 0 0 0 0;",
     ),
     (
         "a second connection of a router is closed",
-        &[
-            ONLY_ROSTER,
-            OPENED,
-            &[
-                (b'E', 2, &[&[10, 0, 0, 1]]),
-                (b'U', 3, &[]),
-                (b'B', 3, OPEN_OF_A),
-                (b'B', 3, KEEPALIVE),
-                (b'B', 1, FROM_A),
-                (b'E', 4, &[&[10, 0, 0, 2]]),
-                DRAIN,
-            ],
-        ],
-        &[
-            ANSWERED,
-            &[
-                (b'B', 2, &[MARKER, &[0, 21, 3, 6, 0]]),
-                (b'X', 2, &[&[4, 6, 0]]),
-                (b'B', 3, OPEN),
-                (b'B', 3, &[MARKER, &[0, 21, 3, 6, 0]]),
-                (b'X', 3, &[&[4, 6, 0]]),
-                (b'B', 4, FROM_A),
-                (b'S', 0, &[TWO, ONE, ONE]),
-            ],
-        ],
+        "C 0 LINKED; U 1; B 1 OPEN_A; B 1 KEEPALIVE; E 2 A; U 3; B 3 OPEN_A; B 3 KEEPALIVE; B 1 UA; E 4 B; D 0;",
+        "B 1 OPEN; B 1 KEEPALIVE; B 2 M 0015 03 0600; X 2 040600; B 3 OPEN; B 3 M 0015 03 0600; X 3 040600; \
+         B 4 UA; S 0 2 1 1;",
     ),
 ];
 
 #[test]
-fn silent_session_expires_and_second_one_is_closed(rt: HostRuntime) -> Result<(), Fail> {
-    for (shows, fed, wanted) in LATER {
-        let found = written(&rt, rt.alloc(), fed)?;
-        let wanted = octets_of(rt.alloc(), wanted)?;
-        assert_eq!(rt; found.as_slice(), wanted.as_slice(), "{shows}");
-    }
-    Ok(())
+fn sessions_end_and_begin_anew(rt: HostRuntime) -> Result<(), Fail> {
+    check(&rt, rt.alloc(), LOST)
 }
 
-const ONCE_CONNECTED: &[&[Record]] = &[CONNECTED];
+const REFUSED: &[Row] = &[
+    (
+        "a header of 18 octets is answered with its length",
+        "C 0 LINKED; U 1; B 1 M 0012; B 1 04;",
+        "B 1 OPEN; B 1 M 0017 03 0102 0012; X 1 010102;",
+    ),
+    (
+        "a header of 4,097 octets is answered with its length",
+        "C 0 LINKED; U 1; B 1 M 1001; B 1 02;",
+        "B 1 OPEN; B 1 M 0017 03 0102 1001; X 1 010102;",
+    ),
+    (
+        "a KEEPALIVE of 20 octets is answered with its length",
+        "C 0 LINKED; U 1; B 1 M 0014; B 1 04;",
+        "B 1 OPEN; B 1 M 0017 03 0102 0014; X 1 010102;",
+    ),
+    (
+        "an OPEN with a hold time of 2 seconds is refused",
+        "C 0 LINKED; U 1; B 1 M 001d 01 04 fde8 0002 0a000001 00; X 1;",
+        "B 1 OPEN; B 1 M 0015 03 0206; X 1 010206;",
+    ),
+    (
+        "an OPEN of a router that is no member is refused",
+        "C 0 LINKED; U 1; B 1 M 001d 01 04 fde8 001e 0a000009 00; X 1;",
+        "B 1 OPEN; B 1 M 0015 03 0203; X 1 010203;",
+    ),
+    (
+        "an OPEN of another AS is refused",
+        "C 0 LINKED; U 1; B 1 M 001d 01 04 fde9 001e 0a000001 00; X 1;",
+        "B 1 OPEN; B 1 M 0015 03 0202; X 1 010202;",
+    ),
+    (
+        "an OPEN of version 3 is refused",
+        "C 0 LINKED; U 1; B 1 M 001d 01 03 fde8 001e 0a000001 00; X 1;",
+        "B 1 OPEN; B 1 M 0017 03 0201 0004; X 1 010201;",
+    ),
+    (
+        "an UPDATE before an OPEN is refused",
+        "C 0 LINKED; U 1; B 1 UA; D 0;",
+        "B 1 OPEN; B 1 M 0015 03 0500; X 1 010500; S 0 0 0 0;",
+    ),
+];
 
-const ONCE_SENT: &[&[Record]] = &[SENT];
+#[test]
+fn faulty_headers_and_opens_are_refused(rt: HostRuntime) -> Result<(), Fail> {
+    check(&rt, rt.alloc(), REFUSED)
+}
 
-// Adds a message in pieces of this length, and an empty one.
+/// Adds a message in pieces of this length, and an empty one.
 fn add_pieces(feed: &mut Vec<u8>, number: u32, message: &[u8], length: usize) -> Result<(), Fail>
     requires { 0 < length }
 {
@@ -338,14 +99,18 @@ fn add_pieces(feed: &mut Vec<u8>, number: u32, message: &[u8], length: usize) ->
 #[test]
 fn octets_count_in_any_pieces(rt: HostRuntime) -> Result<(), Fail> {
     let alloc = rt.alloc();
-    let wanted = octets_of(alloc, ONCE_SENT)?;
+    let wanted = octets_of(alloc, SENT)?;
+    let of_a = octets_of(alloc, "B 1 UA;")?;
+    let of_a = of_a.get(9..).ok_or("short")?;
+    let of_c = octets_of(alloc, "B 3 UC;")?;
+    let of_c = of_c.get(9..).ok_or("short")?;
     for length in [1, 2, 18, 19, 20, 51, 52] {
-        let mut feed = octets_of(alloc, ONCE_CONNECTED)?;
-        add_pieces(&mut feed, 1, &joined(alloc, FROM_A)?, length)?;
-        add_pieces(&mut feed, 3, &joined(alloc, FROM_C)?, length)?;
+        let mut feed = octets_of(alloc, CONNECTED)?;
+        add_pieces(&mut feed, 1, of_a, length)?;
+        add_pieces(&mut feed, 3, of_c, length)?;
         add(&mut feed, b'D', 0, &[])?;
         let found = done(&rt, alloc, feed)?;
-        assert_eq!(rt; found.as_slice(), wanted.as_slice(), "{length}");
+        same(&found, &wanted)?;
     }
     Ok(())
 }

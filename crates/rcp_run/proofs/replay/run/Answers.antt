@@ -1,8 +1,14 @@
-use Rattle.rcp_run.proofs.HeadlineLemmas.{headline_of}
+use Rattle.rcp_run.specs.declared.command.Command.TheVariants as command
+use Rattle.rcp_run.proofs.HeadlineLemmas.{headline-written}
 use Rattle.rcp_run.proofs.replay.run.Goals as goal
 
-pub returns-then-not-is_replay-clause-headline : goal.returns-then-not-is_replay-clause-headline
-returns-then-not-is_replay-clause-headline g c = λ octets written told all is. headline_of octets written all
+pub returns-in-None-clause-headline : goal.returns-in-None-clause-headline
+returns-in-None-clause-headline g c = λ stand octets before written roster told found old new. absurd (c.in-None.ensures command.Replay stand)
 
-pub returns-clause-headline : goal.returns-clause-headline
-returns-clause-headline g c = λ octets written told all is. headline_of octets written all
+pub returns-in-None-clause-complete : goal.returns-in-None-clause-complete
+returns-in-None-clause-complete g c = λ stand octets told read write. absurd (c.in-None.ensures command.Replay stand)
+
+pub returns-in-Some-Replay-clause-headline : goal.returns-in-Some-Replay-clause-headline
+returns-in-Some-Replay-clause-headline g c = λ stand octets before written roster told found old new.
+    headline-written c.replay.result roster octets before written (g.S.Source.left c.replay.new.source) (g.K.Sink.taken c.args.sink.now) (g.K.Sink.taken c.replay.new.sink) found old new
+    (c.replay.ensures.answer octets told)

@@ -21,4 +21,4 @@ members_same a b e =
 pub view-requires : goal.view-requires
 view-requires c =
     let same = lists_same eq-value.it members_same c.members.result.now c.members-2.result.now (sym c.eq.ensures ∙ c.if-eq.true) in
-    ap (λ (v : ViewOf). v.members) (sym c.deref.ensures) ∙ sym c.members-2.ensures.members ∙ sym same ∙ c.members.ensures
+    ap (λ (v : ViewOf). v.members) (sym c.deref.ensures) ∙ sym c.members-2.ensures.members ∙ sym same ∙ c.members.ensures.members

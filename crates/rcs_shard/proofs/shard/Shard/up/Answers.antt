@@ -9,7 +9,7 @@ pub invariant_of-self : goal.invariant_of-self
 invariant_of-self c = (
   joined_to c.self.inside.number c.self.inside.shards c.self.inside.view.value _ _ _ c.insert.new.self c.clear.new.self c.mark_all.new.pending
       c.insert.ensures c.clear.ensures c.mark_all.ensures
-      (joined_up c.self.inside.number c.self.inside.shards c.self.inside.view.value c.self.inside.connected c.self.inside.ribs c.self.inside.pending c.self.invariant.0 c.args.slot (member_in c.self.inside.number c.self.inside.shards c.self.inside.view.value c.self.inside.connected c.self.inside.ribs c.self.inside.pending c.args.self.now c.args.slot c.self.view_is c.requires.member)),
+      (joined_up c.self.inside.number c.self.inside.shards c.self.inside.view.value c.self.inside.connected c.self.inside.ribs c.self.inside.pending c.self.invariant.0 c.args.slot (member_in c.self.inside.number c.self.inside.shards c.self.inside.view.value c.self.inside.connected c.self.inside.ribs c.self.inside.pending c.args.self.now c.args.slot c.self.view_is c.requires)),
   c.self.invariant.1,
 )
 

@@ -1,0 +1,7 @@
+pub mod Reading
+pub mod Words
+pub mod Records
+pub mod Heads
+pub mod Texts
+pub mod Ends
+pub mod Joining

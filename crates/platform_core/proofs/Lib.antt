@@ -1,0 +1,15 @@
+pub mod CourseLemmas
+pub mod ListMaps
+pub mod ConnectionLemmas
+pub mod SeatLemmas
+pub mod TurnLemmas
+pub mod TickLemmas
+pub mod SearchLemmas
+pub mod EstablishedLemmas
+pub mod OpenLemmas
+pub mod CarryLemmas
+pub mod LinkLemmas
+pub mod WorkLemmas
+pub mod StepLemmas
+pub mod NewLemmas
+pub mod JoinLemmas

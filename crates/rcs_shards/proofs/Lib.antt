@@ -1,0 +1,13 @@
+pub mod PlaceLemmas
+pub mod EachLemmas
+pub mod LeastLemmas
+pub mod EventLemmas
+pub mod WorkLemmas
+pub mod ChangeLemmas
+pub mod DirtyLemmas
+pub mod CleanLemmas
+pub mod FinishLemmas
+pub mod SendLemmas
+pub mod CountLemmas
+pub mod StepLemmas
+pub mod AskLemmas

@@ -1,0 +1,41 @@
+use Rattle.std.proofs.Common.{◌≡◌, ◌<◌, ◌≤◌, length, map, get_or, sym, ap, subst, ◌∙◌, arith, rules}
+use Rattle.std.specs.Prelude.{All}
+use Rattle.cost_rows.specs.Views.{ViewOf}
+use Rattle.rcp_model.specs.ServerRibs.{Links}
+use Rattle.rcs_shard.specs.Shards.{ShardOf, acted}
+use Rattle.rcs_shards.proofs.EachLemmas.{changed-read, changed-turn, changed-all, length-changed, written_back, length-last, all-last, all-front}
+use Rattle.rcs_shards.proofs.events.view_each.Goals as goal
+
+pub view-requires : goal.view-requires
+view-requires c =
+    let f : ShardOf → ShardOf = λ s. acted (Links c.args.view.now.value.edges) s in
+    let xs = c.deref_mut-shard-items.result.now in
+    let same : xs ≡ c.args.shards.now.items = c.deref_mut-shard-items.ensures.value in
+    let low : c.loop-shard.shard-index < length c.args.shards.now.items = subst (λ n. c.loop-shard.shard-index < n) (ap length same) c.loop-shard-test.true in
+    let old = subst (All (λ copy. copy.value ≡ c.args.view.now.value)) c.in-Some.ensures.items c.loop-shard.invariant.2 in
+    ap (λ (v : ViewOf). v.members) (all-last (λ copy. copy.value ≡ c.args.view.now.value) c.pop.new.self.items c.in-Some.copy old)
+    ∙ c.requires c.loop-shard.shard-index c.shard-item.result low
+    ∙ ap (λ (s : ShardOf). s.members) (ap (λ l. get_or l c.loop-shard.shard-index c.shard-item.result) (sym same) ∙ sym (changed-read f c.loop-shard.shard-index xs c.loop-shard.shard-items c.shard-item.result c.loop-shard.invariant.0))
+
+pub loop-shard-preserved : goal.loop-shard-preserved
+loop-shard-preserved c =
+    let f : ShardOf → ShardOf = λ s. acted (Links c.args.view.now.value.edges) s in
+    let old = subst (All (λ copy. copy.value ≡ c.args.view.now.value)) c.in-Some.ensures.items c.loop-shard.invariant.2 in
+    let copy_is = all-last (λ copy. copy.value ≡ c.args.view.now.value) c.pop.new.self.items c.in-Some.copy old in
+    let long = ap length c.in-Some.ensures.items ∙ length-last c.pop.new.self.items c.in-Some.copy in (
+      changed-turn f c.loop-shard.shard-index c.deref_mut-shard-items.result.now c.loop-shard.shard-items c.shard-item.result c.view.new.self c.loop-shard.invariant.0 c.loop-shard-test.true c.shard-item.is
+          (c.view.ensures ∙ ap (λ (v : ViewOf). acted (Links v.edges) (get_or c.loop-shard.shard-items c.loop-shard.shard-index c.shard-item.result)) copy_is ∙ ap f (sym c.shard-item.is)),
+      omega (arith, long, c.loop-shard.invariant.1),
+      all-front (λ copy. copy.value ≡ c.args.view.now.value) c.pop.new.self.items c.in-Some.copy old,
+    )
+
+pub returns-clause-after : goal.returns-clause-after
+returns-clause-after c =
+    let f : ShardOf → ShardOf = λ s. acted (Links c.args.view.now.value.edges) s in
+    let xs = c.deref_mut-shard-items.result.now in
+    let same : xs ≡ c.args.shards.now.items = c.deref_mut-shard-items.ensures.value in
+    let all : length xs ≤ c.loop-shard.shard-index = search rules in
+    written_back c.args.shards.now.len c.args.shards.now.items c.loop-shard.shard-items (search rules) (ap length c.loop-shard.invariant.0 ∙ length-changed f c.loop-shard.shard-index xs ∙ ap length same)
+    ∙ c.loop-shard.invariant.0
+    ∙ changed-all f c.loop-shard.shard-index xs all
+    ∙ ap (map f) same

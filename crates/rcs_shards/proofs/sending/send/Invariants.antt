@@ -1,0 +1,10 @@
+-- The slots so far were sent what is dirty for them.
+use Rattle.std.proofs.Common.{◌≤◌, length, map}
+use Rattle.std.specs.Prelude.{All}
+use Rattle.rcs_shards.proofs.SendLemmas.{Sends}
+use Rattle.rcs_shards.proofs.sending.send.Given as goal
+
+abbrev pub invariant-loop-slot : goal.invariant-loop-slot
+invariant-loop-slot l =
+    Sends l.roster l.slots l.slot-index l.initial.shards.items l.shards.items (map (λ messages. map (λ m. m.items) messages.items) l.lists.items)
+    × All (λ messages. All (λ m. length m.items ≤ 4096) messages.items) l.lists.items

@@ -1,0 +1,30 @@
+use Rattle.std.proofs.Common.{ℕ, map, Vec, Global, ◌∙◌}
+use Rattle.std.proofs.lemmas.Result.{IfOk-weaker}
+use Rattle.rcs_shards.specs.Dirty.{sliced_at}
+use Rattle.rcs_shards.proofs.FinishLemmas.{works-least}
+use Rattle.rcs_shards.proofs.shards.Shards.work_least.Goals as goal
+
+pub send-sent-requires-clause-ready : goal.send-sent-requires-clause-ready
+send-sent-requires-clause-ready c =
+    let s = c.self.inside in
+    (works-least s.roster s.view.value s.connected s.shards.items c.self.invariant c.args.self.now c.self.view_is c.work_at.new.shards.items c.work_at.new.shards.items c.args.slots.now c.args.number c.args.count (c.work_at.ensures ∙ (λ i. sliced_at (c.from.ensures i) (c.from-2.ensures i) s.shards.items))).ready
+
+pub invariant_of-self : goal.invariant_of-self
+invariant_of-self c =
+    let s = c.self.inside in
+    (works-least s.roster s.view.value s.connected s.shards.items c.self.invariant c.args.self.now c.self.view_is c.work_at.new.shards.items c.clean.new.shards.items c.args.slots.now c.args.number c.args.count (c.work_at.ensures ∙ (λ i. sliced_at (c.from.ensures i) (c.from-2.ensures i) s.shards.items))).together
+    c.send-sent.new.shards.items c.send-sent.ensures.kept c.clean.ensures
+
+pub returns-clause-after : goal.returns-clause-after
+returns-clause-after c =
+    let s = c.self.inside in
+    (works-least s.roster s.view.value s.connected s.shards.items c.self.invariant c.args.self.now c.self.view_is c.work_at.new.shards.items c.clean.new.shards.items c.args.slots.now c.args.number c.args.count (c.work_at.ensures ∙ (λ i. sliced_at (c.from.ensures i) (c.from-2.ensures i) s.shards.items))).after
+    c.send-sent.new.shards.items c.send-sent.ensures.kept c.clean.ensures
+
+pub returns-clause-sent : goal.returns-clause-sent
+returns-clause-sent c =
+    let s = c.self.inside in
+    let works = works-least s.roster s.view.value s.connected s.shards.items c.self.invariant c.args.self.now c.self.view_is c.work_at.new.shards.items c.clean.new.shards.items c.args.slots.now c.args.number c.args.count (c.work_at.ensures ∙ (λ i. sliced_at (c.from.ensures i) (c.from-2.ensures i) s.shards.items)) in
+    IfOk-weaker c.send-sent.result _ _
+    (λ lists e. works.sent_is c.send-sent.new.shards.items c.send-sent.ensures.kept c.clean.ensures (map (λ (messages : Vec (Vec ℕ Global) Global). map (λ (m : Vec ℕ Global). m.items) messages.items) lists.items) e)
+    c.send-sent.ensures.sent

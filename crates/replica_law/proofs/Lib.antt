@@ -1,0 +1,12 @@
+pub mod RosterLemmas
+pub mod CostLemmas
+pub mod LawLemmas
+pub mod ListLemmas
+pub mod PartitionLemmas
+pub mod RankLemmas
+pub mod LinkLemmas
+pub mod PrefixLemmas
+pub mod DifferenceLemmas
+pub mod FirstLemmas
+pub mod NetworkLemmas
+pub mod TextLemmas

@@ -1,0 +1,4 @@
+pub mod Replicas
+pub mod Steps
+pub mod Ranks
+pub mod Texts

@@ -1,0 +1,4 @@
+pub mod Names
+pub mod Mails
+pub mod Ends
+pub mod Seats

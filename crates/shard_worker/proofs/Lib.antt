@@ -1,0 +1,11 @@
+pub mod RunningLemmas
+pub mod WorkLemmas
+pub mod DirtyLemmas
+pub mod ReplayLemmas
+pub mod EventLemmas
+pub mod KeptLemmas
+pub mod StartLemmas
+pub mod PortLemmas
+pub mod OfferingLemmas
+pub mod MailLemmas
+pub mod TurnLemmas
