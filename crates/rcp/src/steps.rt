@@ -2,7 +2,6 @@
 //! line and the code of its status.
 
 ghost use Rattle.std.specs.Prelude.{◌≡◌, ◌⊎◌};
-ghost use Rattle.outside.specs.Told.{Rose};
 
 use crate::standard::WriterSink;
 use outside::Source;
@@ -50,8 +49,7 @@ pub fn run_words<R: Threads + Sync, S: Source, W: Write>(
 /// The status once the sink's writer has written what it held back. Where that fails, output is lost that was due with
 /// Done, Feed, Roster and Read, and the status is Write.
 fn flushed<W: Write>(status: Status, sink: &mut WriterSink<W>) -> Status
-    ensures stands { (result ≡ status) ⊎ (result ≡ Status.Write) }
-    ensures lost { result ≡ Status.Write → (status ≡ Status.Write) ⊎ Rose sink.old.faults sink.new.faults }
+    ensures { (result ≡ status) ⊎ (result ≡ Status.Write) }
 {
     match (status, sink.flush()) {
         (Status::Done | Status::Feed { .. } | Status::Roster { .. } | Status::Read, Err(_)) => {
