@@ -225,6 +225,19 @@ impl AdjRibs {
         prefix_of(&self.table.least_dirty(slot))
     }
 
+    /// The least dirty prefix of a slot, with what the slot is given there. It takes constant time.
+    pub fn dirty_cell(&self, slot: Slot) -> Option<(Prefix, Option<&Route>)>
+        requires { slot < self.now.members }
+        ensures least { IsLeastDirty self.now slot (option_map (λ found. found.0) result) }
+        ensures route { IfSome result (λ found. option_map (λ route. route.now) found.1 ≡ given_at self.now slot found.0) }
+    {
+        let (p, number) = self.table.least_dirty(slot)?;
+        match number {
+            Some(number) => Some((p, Some(self.routes.get(number)))),
+            None => Some((p, None)),
+        }
+    }
+
     /// The least prefix after the given one at which a slot is given a route, or the least of all where none is given. None exactly where there is none.
     pub fn next_cell(&self, slot: Slot, after: Option<Prefix>) -> Option<Prefix>
         requires { slot < self.now.members }

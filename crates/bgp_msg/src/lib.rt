@@ -15,6 +15,8 @@
 //! - What `write_open`, `write_update`, `write_notification` and `write_keepalive` write is exactly the octets of that
 //!   message, and is read again as the same message, whatever follows it. `write_update` refuses exactly what a message
 //!   of 4,096 octets has no room for. An OPEN with a hold time of 1 or 2 seconds is read as that fault.
+//! - `open_message`, `update_message`, `notification_message` and `keepalive_message` give the same octets in a vector of
+//!   their size.
 //!
 //! ```text
 //! let mut cutter = Cutter::new();
@@ -46,15 +48,15 @@ pub use framing::{Message, first_message};
 pub use header::{
     HEADER_LEN, Header, KEEPALIVE, MARKER, MOST_OCTETS, NOTIFICATION, OPEN, UPDATE, read_header,
 };
-pub use keepalive::write_keepalive;
+pub use keepalive::{keepalive_message, write_keepalive};
 pub use laws::{
     identifier_comes_before_parameters, written_keepalive_is_read_again,
     written_notification_is_read_again, written_open_is_read_again, written_update_is_read_again,
 };
-pub use notification::{Notification, read_notification, write_notification};
-pub use open::{OpenBody, identifier_of, read_open, write_open};
+pub use notification::{Notification, notification_message, read_notification, write_notification};
+pub use open::{OpenBody, identifier_of, open_message, read_open, write_open};
 pub use streams::any_cut;
-pub use update::{Update, check_prefixes, next_prefix, read_update, write_update};
+pub use update::{Update, check_prefixes, next_prefix, read_update, update_message, write_update};
 
 #[cfg(test)]
 mod tests;

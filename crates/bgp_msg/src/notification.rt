@@ -1,6 +1,6 @@
 //! NOTIFICATION messages (RFC 4271 section 4.5).
 
-ghost use Rattle.std.specs.Prelude.{◌≡◌, ◌+◌, ◌≤◌, ◌∷◌, ◌++◌, length, take};
+ghost use Rattle.std.specs.Prelude.{◌≡◌, ◌+◌, ◌≤◌, ◌∷◌, ◌++◌, length, take, IfOk};
 ghost use Rattle.bgp_fault.specs.Faults.{data_octets, IsWithin};
 ghost use Rattle.bgp_msg.specs.Written.{data_length};
 ghost use Rattle.rcp_model.specs.Messages.{notification_octets};
@@ -8,6 +8,8 @@ ghost use Rattle.rcp_model.specs.Messages.{notification_octets};
 use crate::header::NOTIFICATION;
 use crate::put::{put, put_header};
 use bgp_fault::{Data, Fault};
+use rcp_base::NoMemory;
+use std::alloc::Global;
 
 // The octets of a NOTIFICATION without data.
 const LEAST_NOTIFICATION: usize = 21;
@@ -45,6 +47,31 @@ pub fn write_notification(fault: &Fault, body: &[u8], out: &mut [u8; 4096]) -> u
     ensures count { result ≡ 21 + data_length fault.now.extra }
     ensures octets { take result out.new ≡ notification_octets (record { code = fault.now.code; sub = fault.now.sub; content = data_octets body.now fault.now.extra }) }
 {
+    put_notification(out, fault, body)
+}
+
+/// The NOTIFICATION of a fault, in a vector of its 21 to 4,094 octets. `body` is the octets in which the fault was found.
+/// `NoMemory` where there is no room for it.
+pub fn notification_message(alloc: Global, fault: &Fault, body: &[u8]) -> Result<Vec<u8>, NoMemory>
+    requires within { IsWithin body.now fault.now.extra }
+    requires room { data_length fault.now.extra ≤ 4073 }
+    ensures count { IfOk result (λ message. length message.items ≡ 21 + data_length fault.now.extra) }
+    ensures octets { IfOk result (λ message. message.items ≡ notification_octets (record { code = fault.now.code; sub = fault.now.sub; content = data_octets body.now fault.now.extra })) }
+{
+    let mut message = vec![in alloc; 0; LEAST_NOTIFICATION + data_len(fault.extra)]?;
+    put_notification(&mut message, fault, body);
+    Ok(message)
+}
+
+/// Writes the NOTIFICATION of a fault at the front, and answers how many octets it has.
+fn put_notification(out: &mut [u8], fault: &Fault, body: &[u8]) -> usize
+    requires within { IsWithin body.now fault.now.extra }
+    requires short { data_length fault.now.extra ≤ 4073 }
+    requires room { 21 + data_length fault.now.extra ≤ length out.old }
+    ensures count { result ≡ 21 + data_length fault.now.extra }
+    ensures octets { take result out.new ≡ notification_octets (record { code = fault.now.code; sub = fault.now.sub; content = data_octets body.now fault.now.extra }) }
+    ensures room { length out.new ≡ length out.old }
+{
     let count = LEAST_NOTIFICATION + data_len(fault.extra);
     let at = put_header(out, NOTIFICATION, count as u16);
     let at = put(out, at, &[fault.code, fault.sub]);
@@ -63,12 +90,13 @@ fn data_len(extra: Data) -> usize
     }
 }
 
-/// Writes the data of a fault behind the first `at` octets, and answers where it ends.
-fn put_data(out: &mut [u8; 4096], at: usize, extra: Data, body: &[u8]) -> usize
+/// Writes the data of a fault after the first `at` octets, and answers where it ends.
+fn put_data(out: &mut [u8], at: usize, extra: Data, body: &[u8]) -> usize
     requires within { IsWithin body.now extra }
-    requires room { at + data_length extra ≤ 4096 }
+    requires room { at + data_length extra ≤ length out.old }
     ensures end { result ≡ at + data_length extra }
     ensures octets { take result out.new ≡ take at out.old ++ data_octets body.now extra }
+    ensures room { length out.new ≡ length out.old }
 {
     match extra {
         Data::None => at,

@@ -1,6 +1,6 @@
 //! OPEN messages (RFC 4271 section 4.2), and their faults (section 6.2).
 
-ghost use Rattle.std.specs.Prelude.{◌≡◌, ◌+◌, ◌<◌, ◌≤◌, [], Some, None, length, take, drop, slice_index, OnOk, IfErr, MatchOption, MatchResult, IfSome};
+ghost use Rattle.std.specs.Prelude.{◌≡◌, ◌+◌, ◌<◌, ◌≤◌, [], Some, None, length, take, drop, slice_index, OnOk, IfOk, IfErr, MatchOption, MatchResult, IfSome};
 ghost use Rattle.rcp_model.specs.Messages.{fault};
 ghost use Rattle.rcp_model.specs.Opens.{open_fields, open_octets, is_short_hold, parameter_size};
 ghost use Rattle.bgp_fault.specs.Faults.{data_octets, IsWithin};
@@ -12,7 +12,8 @@ use bgp_fault::{
     BAD_PEER_AS, Data, Fault, OPEN_MESSAGE_ERROR, UNACCEPTABLE_HOLD_TIME, UNSPECIFIC,
     UNSUPPORTED_OPTIONAL_PARAMETER, UNSUPPORTED_VERSION_NUMBER,
 };
-use rcp_base::Addr;
+use rcp_base::{Addr, NoMemory};
+use std::alloc::Global;
 
 // The version of the protocol.
 const VERSION: u8 = 4;
@@ -80,6 +81,26 @@ pub fn identifier_of(body: &[u8]) -> Addr
 pub fn write_open(offer: &OpenBody, out: &mut [u8; 4096]) -> usize
     ensures count { result ≡ 29 }
     ensures octets { take result out.new ≡ open_octets (fields_of offer.now) }
+{
+    put_open(out, offer)
+}
+
+/// An OPEN without parameters, in a vector of its 29 octets. `NoMemory` where there is no room for it.
+pub fn open_message(alloc: Global, offer: &OpenBody) -> Result<Vec<u8>, NoMemory>
+    ensures count { IfOk result (λ message. length message.items ≡ 29) }
+    ensures octets { IfOk result (λ message. message.items ≡ open_octets (fields_of offer.now)) }
+{
+    let mut message = vec![in alloc; 0; usize::from(LEAST_OPEN)]?;
+    put_open(&mut message, offer);
+    Ok(message)
+}
+
+/// Writes an OPEN without parameters at the front, and answers how many octets it has.
+fn put_open(out: &mut [u8], offer: &OpenBody) -> usize
+    requires { 29 ≤ length out.old }
+    ensures count { result ≡ 29 }
+    ensures octets { take result out.new ≡ open_octets (fields_of offer.now) }
+    ensures room { length out.new ≡ length out.old }
 {
     let at = put_header(out, OPEN, LEAST_OPEN);
     let at = put(out, at, &[VERSION]);

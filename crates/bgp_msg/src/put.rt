@@ -6,11 +6,12 @@ ghost use Rattle.rcp_model.specs.Messages.{marker};
 
 use crate::header::MARKER;
 
-/// Writes the piece behind the first `at` octets, and answers where it ends.
-pub fn put(out: &mut [u8; 4096], at: usize, piece: &[u8]) -> usize
-    requires { at + length piece.now ≤ 4096 }
+/// Writes the piece after the first `at` octets, and answers where it ends.
+pub fn put(out: &mut [u8], at: usize, piece: &[u8]) -> usize
+    requires { at + length piece.now ≤ length out.old }
     ensures end { result ≡ at + length piece.now }
     ensures octets { take result out.new ≡ take at out.old ++ piece.now }
+    ensures room { length out.new ≡ length out.old }
 {
     let end = at + piece.len();
     out[at..end].copy_from_slice(piece);
@@ -19,9 +20,11 @@ pub fn put(out: &mut [u8; 4096], at: usize, piece: &[u8]) -> usize
 
 /// Writes the header of a message of this type and so many octets at the front (RFC 4271 section 4.1), and answers
 /// where its body begins.
-pub fn put_header(out: &mut [u8; 4096], kind: u8, len: u16) -> usize
+pub fn put_header(out: &mut [u8], kind: u8, len: u16) -> usize
+    requires { 19 ≤ length out.old }
     ensures end { result ≡ 19 }
     ensures octets { take result out.new ≡ marker ++ to_be_bytes w16 len ++ kind ∷ [] }
+    ensures room { length out.new ≡ length out.old }
 {
     let at = put(out, 0, &MARKER);
     let at = put(out, at, &len.to_be_bytes());

@@ -13,7 +13,8 @@ use crate::put::{put, put_header};
 use bgp_fault::{
     Data, Fault, INVALID_NETWORK_FIELD, MALFORMED_ATTRIBUTE_LIST, UPDATE_MESSAGE_ERROR,
 };
-use rcp_base::Prefix;
+use rcp_base::{NoMemory, Prefix};
+use std::alloc::Global;
 
 // The octets of an UPDATE without withdrawn routes, attributes and NLRI.
 const LEAST_UPDATE: usize = 23;
@@ -106,21 +107,74 @@ pub fn write_update(
     ensures count { IfSome result (λ count. count ≡ length (update_octets withdrawn.now attrs.now nlri.now)) }
     ensures octets { IfSome result (λ count. take count out.new ≡ update_octets withdrawn.now attrs.now nlri.now) }
 {
+    let size = size_of(withdrawn, attrs, nlri)?;
+    put_update(out, size, withdrawn, attrs, nlri);
+    Some(size.whole)
+}
+
+/// The UPDATE that withdraws and announces these prefixes, in a vector of its 23 to 4,096 octets. `NoMemory` where there is no
+/// room for it.
+pub fn update_message(
+    alloc: Global,
+    withdrawn: &[Prefix],
+    attrs: &[u8],
+    nlri: &[Prefix],
+) -> Result<Vec<u8>, NoMemory>
+    requires { length (update_octets withdrawn.now attrs.now nlri.now) ≤ 4096 }
+    ensures { IfOk result (λ message. message.items ≡ update_octets withdrawn.now attrs.now nlri.now) }
+{
+    let Some(size) = size_of(withdrawn, attrs, nlri) else {
+        unreachable!()
+    };
+    let mut message = vec![in alloc; 0; size.whole]?;
+    put_update(&mut message, size, withdrawn, attrs, nlri);
+    Ok(message)
+}
+
+/// How many octets an UPDATE has: its withdrawn routes, and all.
+#[derive(Clone, Copy)]
+struct Size {
+    withdrawn: usize,
+    whole: usize,
+}
+
+/// How many octets the UPDATE of these sections has. None exactly where it has more than 4,096.
+fn size_of(withdrawn: &[Prefix], attrs: &[u8], nlri: &[Prefix]) -> Option<Size>
+    ensures fits { IsSome result ↔ (length (update_octets withdrawn.now attrs.now nlri.now) ≤ 4096) }
+    ensures withdrawn { IfSome result (λ size. size.withdrawn ≡ length (flat_map prefix_octets withdrawn.now)) }
+    ensures whole { IfSome result (λ size. size.whole ≡ 23 + size.withdrawn + length attrs.now + length (flat_map prefix_octets nlri.now)) }
+    ensures short { IfSome result (λ size. size.whole ≤ 4096) }
+{
     let withdrawn_count = section_len(withdrawn)?;
     let nlri_count = section_len(nlri)?;
     if attrs.len() > MOST_OCTETS {
         return None;
     }
-    let count = LEAST_UPDATE + withdrawn_count + attrs.len() + nlri_count;
-    if count > MOST_OCTETS {
+    let whole = LEAST_UPDATE + withdrawn_count + attrs.len() + nlri_count;
+    if whole > MOST_OCTETS {
         return None;
     }
-    let at = put_header(out, UPDATE, count as u16);
-    let at = put(out, at, &(withdrawn_count as u16).to_be_bytes());
+    Some(Size {
+        withdrawn: withdrawn_count,
+        whole,
+    })
+}
+
+/// Writes the UPDATE of these sections, which has this size, at the front.
+fn put_update(out: &mut [u8], size: Size, withdrawn: &[Prefix], attrs: &[u8], nlri: &[Prefix])
+    requires withdrawn { size.withdrawn ≡ length (flat_map prefix_octets withdrawn.now) }
+    requires whole { size.whole ≡ 23 + size.withdrawn + length attrs.now + length (flat_map prefix_octets nlri.now) }
+    requires short { size.whole ≤ 4096 }
+    requires room { size.whole ≤ length out.old }
+    ensures octets { take size.whole out.new ≡ update_octets withdrawn.now attrs.now nlri.now }
+    ensures room { length out.new ≡ length out.old }
+{
+    let at = put_header(out, UPDATE, size.whole as u16);
+    let at = put(out, at, &(size.withdrawn as u16).to_be_bytes());
     let at = put_section(out, at, withdrawn);
     let at = put(out, at, &(attrs.len() as u16).to_be_bytes());
     let at = put(out, at, attrs);
-    Some(put_section(out, at, nlri))
+    put_section(out, at, nlri);
 }
 
 /// How many octets the prefix has: its length, and as many octets of its address as hold so many bits.
@@ -145,11 +199,12 @@ fn section_len(prefixes: &[Prefix]) -> Option<usize>
     Some(count)
 }
 
-/// Writes the prefixes behind the first `at` octets, and answers where they end.
-fn put_section(out: &mut [u8; 4096], mut at: usize, prefixes: &[Prefix]) -> usize
-    requires { at + length (flat_map prefix_octets prefixes.now) ≤ 4096 }
+/// Writes the prefixes after the first `at` octets, and answers where they end.
+fn put_section(out: &mut [u8], mut at: usize, prefixes: &[Prefix]) -> usize
+    requires { at + length (flat_map prefix_octets prefixes.now) ≤ length out.old }
     ensures end { result ≡ at + length (flat_map prefix_octets prefixes.now) }
     ensures octets { take result out.new ≡ take at out.old ++ flat_map prefix_octets prefixes.now }
+    ensures room { length out.new ≡ length out.old }
 {
     for prefix in prefixes {
         let mut octets = [0; 5];

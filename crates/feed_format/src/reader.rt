@@ -8,7 +8,7 @@ ghost use Rattle.rcp_base.specs.Feed.{FeedState, before_feeds, before_next_feed,
 ghost use Rattle.feed_format.specs.Reading.{IsRefusal};
 ghost use Rattle.rcp_base.specs.declared.kinds.FeedWhy.TheVariants as why;
 
-use crate::record::Record;
+use crate::record::{Record, has_length};
 use crate::taking::{Stop, read_body, read_exactly};
 use outside::Source;
 use rcp_base::{FeedWhy, Kind, NoMemory};
@@ -240,7 +240,7 @@ impl Reader {
         if self.started && kind == Kind::Roster {
             return Err(FeedWhy::Twice);
         }
-        if len > MOST_BODY || !has_length(kind, len) {
+        if len > MOST_BODY || !has_length(kind, len as usize) {
             return Err(FeedWhy::Length);
         }
         Ok(())
@@ -350,19 +350,6 @@ fn kind_of(letter: u8) -> Option<Kind>
         b'D' => Some(Kind::Drain),
         b'Z' => Some(Kind::Finish),
         _ => None,
-    }
-}
-
-/// Whether a kind's bodies may have this length.
-fn has_length(kind: Kind, len: u32) -> bool
-    ensures { result ≡ has_length kind len }
-{
-    match kind {
-        Kind::Roster | Kind::Octets | Kind::Links => true,
-        Kind::Ready => len == 4,
-        Kind::Time => len == 8,
-        Kind::Slice => len == 6,
-        Kind::Raw | Kind::Closed | Kind::Drain | Kind::Finish => len == 0,
     }
 }
 

@@ -1,5 +1,5 @@
 -- The record that the words of a line stand for.
-use Rattle.std.specs.Prelude.{ℕ, zero, suc, ◌+◌, ◌^◌, List, [], ◌∷◌, ◌++◌, length, Option, Some, None, Result, Ok, Err, nat_lt, ◌==◌, if◌then◌else◌, bytes_eq, codes}
+use Rattle.std.specs.Prelude.{ℕ, zero, suc, ◌^◌, List, [], ◌∷◌, ◌++◌, length, Result, Ok, nat_lt, if◌then◌else◌, bytes_eq, codes}
 use Rattle.std.specs.Int.{w16, w32, w64, to_be_bytes}
 use Rattle.rcp_base.specs.Feed.{OutRecord, frame}
 use Rattle.rcp_base.specs.Text.{number_of, address_of}

@@ -1,7 +1,6 @@
 -- Words of a line, and the values that they spell.
-use Rattle.std.specs.Prelude.{ℕ, ◌+◌, ◌-◌, ◌*◌, ◌/◌, ◌%◌, ◌^◌, Bool, true, false, ◌&&◌, ◌||◌, ◌==◌, List, [], ◌∷◌, ◌++◌, length, take, filter, slice_index, Option, Some, None, option_map, option_and_then, nat_lt, nat_le, if◌then◌else◌}
+use Rattle.std.specs.Prelude.{ℕ, ◌+◌, ◌-◌, ◌*◌, ◌/◌, ◌%◌, Bool, true, false, ◌&&◌, ◌||◌, ◌==◌, List, [], ◌∷◌, ◌++◌, length, take, filter, slice_index, Option, Some, None, option_and_then, nat_lt, nat_le, if◌then◌else◌}
 use Rattle.std.specs.List.{slice_split}
-use Rattle.rcp_base.specs.Text.{number_of}
 
 -- ---- lines and words
 

@@ -3,6 +3,8 @@ use rcp_base::{Addr, Prefix, RouterId, Slot};
 use rcp_model::{Assigned, Costs, Edge, Route};
 use std::test::Fail;
 
+mod pair;
+
 /// A roster of one router, to which no one announces anything.
 #[derive(Drop)]
 struct Lone {

@@ -1,12 +1,11 @@
 -- Segments of an AS_PATH: what stands in front of the octets, read and judged.
-use Rattle.std.proofs.Common.{◌≡◌, ℕ, suc, ◌+◌, ◌*◌, ◌-◌, ◌<◌, ◌≤◌, Bool, true, false, ◌||◌, ◌⊎◌, inl, inr, not, eqb, leb, List, [], ◌∷◌, length, get_or, take, drop, map, Some, None, refl, ap, ◌∙◌, arith}
+use Rattle.std.proofs.Common.{◌≡◌, ℕ, suc, ◌+◌, ◌*◌, ◌-◌, ◌<◌, ◌≤◌, Bool, true, false, ◌||◌, inl, inr, not, eqb, leb, List, [], ◌∷◌, ◌++◌, length, get_or, take, drop, map, Some, None, refl, sym, ap, ◌∙◌, arith, length-append}
 use Rattle.std.specs.Int.{from_be_bytes}
 use Rattle.std.specs.List.{flat_map, list_any}
-use Rattle.std.proofs.lemmas.List.{take_all}
+use Rattle.std.proofs.lemmas.List.{take_all, drop_at}
 use Rattle.std.proofs.lemmas.Bool.{le-leb, lt-leb, cases_lt}
 use Rattle.std.proofs.lemmas.Bool.Decides.{nat_tests}
 use Rattle.std.specs.Prelude.{slice_index}
-use Rattle.std.proofs.Math.Bool.{or-true}
 use Rattle.rcp_base.specs.Cut.{cut}
 use Rattle.rcp_model.specs.Messages.{is_outside}
 use Rattle.rcp_model.specs.Attributes.{number_size, numbers_in, segment_size, segment_of, segments_in, is_faulty_path, number_width}
@@ -35,36 +34,50 @@ numbers_in_front (a ∷ b ∷ rest) n long is =
 
 -- ---- segments
 
--- how long the segment in front is, where it is whole
-whole_segment : (kind count : ℕ) (rest : List ℕ) → count * 2 ≤ length rest → segment_size number_width (kind ∷ count ∷ rest) ≡ Some (2 + count * 2)
+segments-none : (octets : List ℕ) → segment_size number_width octets ≡ None → segments_in number_width octets ≡ []
+segments-none octets none = ap (λ (parts : List (List ℕ) × List ℕ). map (segment_of number_width) parts.0) (cut-none (segment_size number_width) octets none)
+
+few_octets : (octets : List ℕ) → length octets < 2 → segment_size number_width octets ≡ None
 unfolding segment_size
-whole_segment kind count rest fits =
-    let head : leb 2 (length (kind ∷ count ∷ rest)) ≡ true = le-leb _ _ (omega arith) in
-    let body : leb (2 + count * 2) (length (kind ∷ count ∷ rest)) ≡ true = le-leb _ _ (omega arith) in
+few_octets octets few =
+    let head : leb 2 (length octets) ≡ false = lt-leb _ _ few in
+    rw head refl
+
+pub segments-few : (octets : List ℕ) → length octets < 2 → segments_in number_width octets ≡ []
+segments-few octets few = segments-none octets (few_octets octets few)
+
+broken_off : (octets : List ℕ) → 2 ≤ length octets → length octets < 2 + get_or octets 1 0 * 2 → segment_size number_width octets ≡ None
+unfolding segment_size
+broken_off octets long short =
+    let head : leb 2 (length octets) ≡ true = le-leb _ _ long in
+    let body : leb (2 + get_or octets 1 0 * 2) (length octets) ≡ false = lt-leb _ _ short in
     rw (head, body) refl
 
-broken_segment : (kind count : ℕ) (rest : List ℕ) → length rest < count * 2 → segment_size number_width (kind ∷ count ∷ rest) ≡ None
+pub segments-broken : (octets : List ℕ) → 2 ≤ length octets → length octets < 2 + get_or octets 1 0 * 2 → segments_in number_width octets ≡ []
+segments-broken octets long short = segments-none octets (broken_off octets long short)
+
+whole : (octets : List ℕ) → 2 ≤ length octets → 2 + get_or octets 1 0 * 2 ≤ length octets → segment_size number_width octets ≡ Some (2 + get_or octets 1 0 * 2)
 unfolding segment_size
-broken_segment kind count rest short =
-    let head : leb 2 (length (kind ∷ count ∷ rest)) ≡ true = le-leb _ _ (omega arith) in
-    let body : leb (2 + count * 2) (length (kind ∷ count ∷ rest)) ≡ false = lt-leb _ _ (omega arith) in
+whole octets long fits =
+    let head : leb 2 (length octets) ≡ true = le-leb _ _ long in
+    let body : leb (2 + get_or octets 1 0 * 2) (length octets) ≡ true = le-leb _ _ fits in
     rw (head, body) refl
 
-lone_octet : (x : ℕ) → segment_size number_width (x ∷ []) ≡ None
-unfolding segment_size
-lone_octet x = refl
+pub segments-front : (octets front back : List ℕ) → 2 ≤ length octets → 2 + get_or octets 1 0 * 2 ≤ length octets
+    → front ≡ take (2 + get_or octets 1 0 * 2) octets → back ≡ drop (2 + get_or octets 1 0 * 2) octets
+    → segments_in number_width octets ≡ segment_of number_width front ∷ segments_in number_width back
+segments-front octets front back long fits is_front is_back =
+    ap (λ (parts : List (List ℕ) × List ℕ). map (segment_of number_width) parts.0)
+    (cut-more (segment_size number_width) octets (2 + get_or octets 1 0 * 2) (whole octets long fits) (omega arith) (omega arith))
+    ∙ (λ i. segment_of number_width (sym is_front i) ∷ segments_in number_width (sym is_back i))
 
 pieces : (kind count : ℕ) (rest : List ℕ) → count * 2 ≤ length rest
     → cut (segment_size number_width) (kind ∷ count ∷ rest)
     ≡ ((kind ∷ count ∷ take (count * 2) rest) ∷ (cut (segment_size number_width) (drop (count * 2) rest)).0, (cut (segment_size number_width) (drop (count * 2) rest)).1)
 pieces kind count rest fits =
     let two : 2 + count * 2 ≡ suc (suc (count * 2)) = omega arith in
-    let size : segment_size number_width (kind ∷ count ∷ rest) ≡ Some (suc (suc (count * 2))) = whole_segment kind count rest fits ∙ ap (λ (n : ℕ). Some n) two in
+    let size : segment_size number_width (kind ∷ count ∷ rest) ≡ Some (suc (suc (count * 2))) = whole (kind ∷ count ∷ rest) (omega arith) (omega arith) ∙ ap (λ (n : ℕ). Some n) two in
     cut-more (segment_size number_width) (kind ∷ count ∷ rest) (suc (suc (count * 2))) size (omega arith) (omega arith)
-
-pub segments_in-more : (kind count : ℕ) (rest : List ℕ) → count * 2 ≤ length rest
-    → segments_in number_width (kind ∷ count ∷ rest) ≡ record { kind = kind; numbers = numbers_in number_width (take (count * 2) rest) } ∷ segments_in number_width (drop (count * 2) rest)
-segments_in-more kind count rest fits = ap (λ (parts : List (List ℕ) × List ℕ). map (segment_of number_width) parts.0) (pieces kind count rest fits)
 
 abbrev is_bad : List ℕ → Bool
 is_bad piece = is_outside 1 2 (slice_index piece 0) || eqb (slice_index piece 1) 0
@@ -87,63 +100,35 @@ not_cut octets some none =
     let left : eqb (length octets) 0 ≡ false = grind (arith, nat_tests) in
     ap judged (cut-none (segment_size number_width) octets none) ∙ ap not left
 
-pub faulty-short : (x : ℕ) → is_faulty_path number_width (x ∷ []) ≡ true
-faulty-short x = not_cut (x ∷ []) (omega arith) (lone_octet x)
+-- where no segment is whole there is a fault, unless there are no octets
+pub faulty-none : (octets : List ℕ) → segments_in number_width octets ≡ [] → is_faulty_path number_width octets ≡ not (eqb (length octets) 0)
+faulty-none [] none = refl
+faulty-none (x ∷ []) none = not_cut (x ∷ []) (omega arith) (few_octets (x ∷ []) (omega arith))
+faulty-none (kind ∷ count ∷ rest) none =
+    let octets = kind ∷ count ∷ rest in
+    let some : eqb (length octets) 0 ≡ false = grind (arith, nat_tests) in
+    elim (cases_lt (length rest) (count * 2)) [
+      | inl short ↦ not_cut octets (omega arith) (broken_off octets (omega arith) (omega arith)) ∙ sym (ap not some)
+      | inr fits ↦
+          let front = segments-front octets (take (2 + count * 2) octets) (drop (2 + count * 2) octets) (omega arith) (omega arith) refl refl in
+          let lengths = ap length (sym front ∙ none) in
+          absurd (omega (arith, lengths))
+    ]
 
-pub faulty-broken : (kind count : ℕ) (rest : List ℕ) → length rest < count * 2 → is_faulty_path number_width (kind ∷ count ∷ rest) ≡ true
-faulty-broken kind count rest short = not_cut (kind ∷ count ∷ rest) (omega arith) (broken_segment kind count rest short)
-
--- the first two octets, and the others
-pub front_is : (octets : List ℕ) → 2 ≤ length octets → octets ≡ get_or octets 0 0 ∷ get_or octets 1 0 ∷ take (length octets - 2) (drop 2 octets)
-front_is [] long = absurd (omega arith)
-front_is (a ∷ []) long = absurd (omega arith)
-front_is (a ∷ b ∷ rest) long =
-    let all : take (length (a ∷ b ∷ rest) - 2) rest ≡ rest = take_all _ rest (omega arith) in
-    rw all refl
-
-pub faulty-few : (octets : List ℕ) → length octets < 2 → is_faulty_path number_width octets ≡ not (eqb (length octets) 0)
-faulty-few [] few = refl
-faulty-few (x ∷ []) few = faulty-short x
-faulty-few (x ∷ y ∷ rest) few = absurd (omega arith)
+-- a segment in front, judged, and then what follows it
+pub judged_front : (segment after : List ℕ) → 2 ≤ length segment → length segment ≡ 2 + get_or segment 1 0 * 2
+    → is_faulty_path number_width (segment ++ after) ≡ ((is_outside 1 2 (get_or segment 0 0) || eqb (get_or segment 1 0) 0) || is_faulty_path number_width after)
+judged_front [] after long counted = absurd (omega arith)
+judged_front (x ∷ []) after long counted = absurd (omega arith)
+judged_front (kind ∷ count ∷ rest) after long counted =
+    let numbers : length rest ≡ count * 2 = omega arith in
+    let behind : drop (count * 2) (rest ++ after) ≡ after = drop_at rest after (count * 2) numbers in
+    is_faulty_path-more kind count (rest ++ after) (omega (arith, length-append rest after))
+    ∙ ap (λ (xs : List ℕ). (is_outside 1 2 kind || eqb count 0) || is_faulty_path number_width xs) behind
 
 pub length_numbers : (ns : List ℕ) → length (flat_map number_octets ns) ≡ length ns * 2
 length_numbers [] = refl
 length_numbers (n ∷ ns) = omega (arith, length_numbers ns)
-
--- what stands behind the first two octets
-abbrev pub behind : List ℕ → List ℕ
-behind octets = take (length octets - 2) (drop 2 octets)
-
--- a kind that isn't known, no number, or an end within the segment
-pub faulty_front : (octets : List ℕ) → 2 ≤ length octets → (is_outside 1 2 (get_or octets 0 0) ≡ true) ⊎ ((get_or octets 1 0 * 2 ≡ 0) ⊎ (length (behind octets) < get_or octets 1 0 * 2)) → is_faulty_path number_width octets ≡ true
-faulty_front octets long why = ap (is_faulty_path number_width) (front_is octets long) ∙ faulty (get_or octets 0 0) (get_or octets 1 0) (behind octets) why
-  where
-    bad : (kind count : ℕ) (rest : List ℕ) → count * 2 ≤ length rest → (is_outside 1 2 kind ≡ true) ⊎ ((count * 2 ≡ 0) ⊎ (length rest < count * 2)) → ((is_outside 1 2 kind || eqb count 0) || is_faulty_path number_width (drop (count * 2) rest)) ≡ true
-    bad kind count rest fits (inl outside) = rw outside refl
-    bad kind count rest fits (inr (inl none)) = let zero_is : count ≡ 0 = omega arith in rw (zero_is, or-true) refl
-    bad kind count rest fits (inr (inr short)) = absurd (omega arith)
-
-    faulty : (kind count : ℕ) (rest : List ℕ) → (is_outside 1 2 kind ≡ true) ⊎ ((count * 2 ≡ 0) ⊎ (length rest < count * 2)) → is_faulty_path number_width (kind ∷ count ∷ rest) ≡ true
-    faulty kind count rest why =
-        elim (cases_lt (length rest) (count * 2)) [
-          | inl short ↦ faulty-broken kind count rest short
-          | inr fits ↦ is_faulty_path-more kind count rest fits ∙ bad kind count rest fits why
-        ]
-
--- a faultless segment in front
-pub good_front : (octets : List ℕ) → 2 ≤ length octets → is_outside 1 2 (get_or octets 0 0) ≡ false → (get_or octets 1 0 * 2 ≡ 0 → ⊥) → get_or octets 1 0 * 2 ≤ length (behind octets)
-    → is_faulty_path number_width octets ≡ is_faulty_path number_width (drop (get_or octets 1 0 * 2) (behind octets))
-good_front octets long inside some fits =
-    let counted : eqb (get_or octets 1 0) 0 ≡ false = grind (arith, nat_tests) in
-    ap (is_faulty_path number_width) (front_is octets long) ∙ is_faulty_path-more (get_or octets 0 0) (get_or octets 1 0) (behind octets) fits ∙ rw (inside, counted) refl
-
-pub front_read : (octets : List ℕ) → 2 ≤ length octets → (kind : SegmentKind) (numbers front after : List ℕ)
-    → kind_octet kind ≡ get_or octets 0 0 → numbers ≡ numbers_in number_width front → front ≡ take (get_or octets 1 0 * 2) (behind octets) → after ≡ drop (get_or octets 1 0 * 2) (behind octets)
-    → get_or octets 1 0 * 2 ≤ length (behind octets)
-    → segments_in number_width octets ≡ record { kind = kind_octet kind; numbers = numbers } ∷ segments_in number_width after
-front_read octets long kind numbers front after kind_is numbers_are front_is' after_is fits =
-    rw (numbers_are, front_is', after_is, kind_is)
-    (ap (segments_in number_width) (front_is octets long) ∙ segments_in-more (get_or octets 0 0) (get_or octets 1 0) (behind octets) fits)
 
 pub kind_inside : (kind : SegmentKind) (octet : ℕ) → kind_octet kind ≡ octet → is_outside 1 2 octet ≡ false
 kind_inside AsSet octet is = rw (← is) refl

@@ -1,10 +1,10 @@
--- What stands in front of octets that are attributes, segments or numbers, and texts that are added one after another.
-use Rattle.std.proofs.Common.{◌≡◌, ℕ, ◌+◌, ◌*◌, ◌<◌, ◌≤◌, Bool, true, false, eqb, leb, List, [], ◌∷◌, ◌++◌, length, get_or, take, drop, map, Some, None, refl, sym, ap, ◌∙◌, arith, append_assoc}
+-- What stands in front of octets that are attributes or numbers, and texts that are added one after another.
+use Rattle.std.proofs.Common.{◌≡◌, ℕ, ◌+◌, ◌<◌, ◌≤◌, Bool, false, eqb, leb, List, [], ◌∷◌, ◌++◌, length, take, drop, map, Some, None, refl, sym, ap, ◌∙◌, arith, append_assoc}
 use Rattle.std.specs.Int.{from_be_bytes}
 use Rattle.std.specs.List.{flat_map, join_with_byte}
-use Rattle.std.proofs.lemmas.Bool.{le-leb, lt-leb}
+use Rattle.std.proofs.lemmas.Bool.{lt-leb}
 use Rattle.rcp_base.specs.Cut.{cut}
-use Rattle.rcp_model.specs.Attributes.{attribute_size, attribute_of, attributes_in, number_size, numbers_in, segment_size, segment_of, segments_in, number_width}
+use Rattle.rcp_model.specs.Attributes.{attribute_size, attribute_of, attributes_in, number_size, numbers_in, number_width}
 use Rattle.path_attrs.proofs.Cutting.{cut-more, cut-none}
 
 -- ---- attributes
@@ -17,45 +17,6 @@ pub attributes-front : (octets : List ℕ) (n : ℕ) (front back : List ℕ) →
 attributes-front octets n front back size some long is_front is_back =
     ap (λ (parts : List (List ℕ) × List ℕ). map attribute_of parts.0) (cut-more attribute_size octets n size some long)
     ∙ (λ i. attribute_of (sym is_front i) ∷ attributes_in (sym is_back i))
-
--- ---- segments
-
-segments-none : (octets : List ℕ) → segment_size number_width octets ≡ None → segments_in number_width octets ≡ []
-segments-none octets none = ap (λ (parts : List (List ℕ) × List ℕ). map (segment_of number_width) parts.0) (cut-none (segment_size number_width) octets none)
-
-few_octets : (octets : List ℕ) → length octets < 2 → segment_size number_width octets ≡ None
-unfolding segment_size
-few_octets octets few =
-    let head : leb 2 (length octets) ≡ false = lt-leb _ _ few in
-    rw head refl
-
-pub segments-few : (octets : List ℕ) → length octets < 2 → segments_in number_width octets ≡ []
-segments-few octets few = segments-none octets (few_octets octets few)
-
-broken_off : (octets : List ℕ) → 2 ≤ length octets → length octets < 2 + get_or octets 1 0 * 2 → segment_size number_width octets ≡ None
-unfolding segment_size
-broken_off octets long short =
-    let head : leb 2 (length octets) ≡ true = le-leb _ _ long in
-    let body : leb (2 + get_or octets 1 0 * 2) (length octets) ≡ false = lt-leb _ _ short in
-    rw (head, body) refl
-
-pub segments-broken : (octets : List ℕ) → 2 ≤ length octets → length octets < 2 + get_or octets 1 0 * 2 → segments_in number_width octets ≡ []
-segments-broken octets long short = segments-none octets (broken_off octets long short)
-
-whole : (octets : List ℕ) → 2 ≤ length octets → 2 + get_or octets 1 0 * 2 ≤ length octets → segment_size number_width octets ≡ Some (2 + get_or octets 1 0 * 2)
-unfolding segment_size
-whole octets long fits =
-    let head : leb 2 (length octets) ≡ true = le-leb _ _ long in
-    let body : leb (2 + get_or octets 1 0 * 2) (length octets) ≡ true = le-leb _ _ fits in
-    rw (head, body) refl
-
-pub segments-front : (octets front back : List ℕ) → 2 ≤ length octets → 2 + get_or octets 1 0 * 2 ≤ length octets
-    → front ≡ take (2 + get_or octets 1 0 * 2) octets → back ≡ drop (2 + get_or octets 1 0 * 2) octets
-    → segments_in number_width octets ≡ segment_of number_width front ∷ segments_in number_width back
-segments-front octets front back long fits is_front is_back =
-    ap (λ (parts : List (List ℕ) × List ℕ). map (segment_of number_width) parts.0)
-    (cut-more (segment_size number_width) octets (2 + get_or octets 1 0 * 2) (whole octets long fits) (omega arith) (omega arith))
-    ∙ (λ i. segment_of number_width (sym is_front i) ∷ segments_in number_width (sym is_back i))
 
 -- ---- numbers
 

@@ -1,9 +1,9 @@
 //! AS_PATH: the ASes that a route has passed, in segments (RFC 4271, section 4.3).
 
-ghost use Rattle.std.specs.Prelude.{◌≡◌, ◌+◌, ◌*◌, ◌/◌, ◌<◌, ◌≤◌, [], ◌∷◌, ◌++◌, ◌%◌, false, not, ◌^◌, length, ◌==◌, sum_by, IfOk, IfNone, IfSome, IsTrue, MatchOption};
+ghost use Rattle.std.specs.Prelude.{◌≡◌, ◌+◌, ◌*◌, ◌/◌, ◌<◌, ◌≤◌, [], ◌∷◌, ◌++◌, ◌%◌, false, not, ◌^◌, length, ◌==◌, sum_by, slice_index, IfOk, IfNone, IfSome, IsTrue, MatchOption};
 ghost use Rattle.std.specs.Int.{byte_len};
 ghost use Rattle.std.specs.List.{flat_map, list_any};
-ghost use Rattle.rcp_model.specs.Attributes.{is_faulty_path, numbers_in, segments_in, number_width};
+ghost use Rattle.rcp_model.specs.Attributes.{is_faulty_path, numbers_in, segment_of, segments_in, number_width};
 ghost use Rattle.rcp_model.specs.Messages.{is_outside};
 ghost use Rattle.path_attrs.specs.Appending.{Appends};
 ghost use Rattle.path_attrs.specs.Segments.{kind_octet, segment_octets, path_octets};
@@ -231,8 +231,8 @@ pub fn is_malformed(octets: &[u8]) -> bool
     !rest.is_empty()
 }
 
-/// The kind of the segment at the front, the octets of its numbers, and those behind it. None where there are no octets,
-/// and where the segment is malformed: of another kind, with no number, or one that passes the end.
+/// The kind of the segment in front, the octets of its numbers, and those after it. None where there are no octets, and where the
+/// segment is malformed: of another kind, with no number, or one that passes the end.
 fn front_segment(octets: &[u8]) -> Option<(SegmentKind, &[u8], &[u8])>
     ensures none { IfNone result (is_faulty_path number_width octets.now ≡ not (length octets.now == 0)) }
     ensures spelled { IfSome result (λ front. octets.now
@@ -245,16 +245,33 @@ fn front_segment(octets: &[u8]) -> Option<(SegmentKind, &[u8], &[u8])>
     ensures faultless { IfSome result (λ front.
         is_faulty_path number_width octets.now ≡ is_faulty_path number_width front.2.now) }
 {
-    let [kind, count, rest @ ..] = octets else {
-        return None;
-    };
-    let kind = SegmentKind::from_octet(*kind)?;
-    let len = usize::from(*count) * NUMBER_LEN;
-    if len == 0 || rest.len() < len {
+    let (segment, after) = next_segment(octets)?;
+    let kind = SegmentKind::from_octet(segment[0])?;
+    let numbers = &segment[2..];
+    if numbers.is_empty() {
         return None;
     }
-    let (numbers, after) = rest.split_at(len);
     Some((kind, numbers, after))
+}
+
+/// The whole segment in front, of any kind and count, and the octets after it. None where there is none.
+pub fn next_segment(octets: &[u8]) -> Option<(&[u8], &[u8])>
+    ensures none { IfNone result (segments_in number_width octets.now ≡ []) }
+    ensures front { IfSome result (λ front. segments_in number_width octets.now
+        ≡ segment_of number_width front.0.now ∷ segments_in number_width front.1.now) }
+    ensures spelled { IfSome result (λ front. octets.now ≡ front.0.now ++ front.1.now) }
+    ensures long { IfSome result (λ front. 2 ≤ length front.0.now) }
+    ensures counted { IfSome result (λ front. length front.0.now ≡ 2 + slice_index front.0.now 1 * byte_len number_width) }
+    ensures few { IfSome result (λ front. slice_index front.0.now 1 ≤ 255) }
+{
+    let [_, count, ..] = octets else {
+        return None;
+    };
+    let len = 2 + usize::from(*count) * NUMBER_LEN;
+    if octets.len() < len {
+        return None;
+    }
+    Some(octets.split_at(len))
 }
 
 /// A segment of this kind with the numbers of the octets.

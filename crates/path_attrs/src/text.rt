@@ -8,8 +8,8 @@ ghost use Rattle.rcp_model.specs.Attributes.{attribute_of, attributes_in, value_
 ghost use Rattle.path_attrs.specs.Texts.{segment_text, text_of_path, path_text};
 
 use crate::header::{first_attribute, value_place};
-use crate::numbers::{AsNumber, NUMBER_LEN, split_number};
-use crate::path::SegmentKind;
+use crate::numbers::{AsNumber, split_number};
+use crate::path::{SegmentKind, next_segment};
 use crate::table::AS_PATH;
 use rcp_base::NoMemory;
 use std::alloc::Global;
@@ -57,24 +57,6 @@ fn next_attribute(octets: &[u8]) -> Option<(&[u8], &[u8])>
         return None;
     };
     Some(octets.split_at(attribute.len()))
-}
-
-/// The whole segment in front and the octets after it, or None where there is none.
-fn next_segment(octets: &[u8]) -> Option<(&[u8], &[u8])>
-    ensures none { IfNone result (segments_in number_width octets.now ≡ []) }
-    ensures front { IfSome result (λ front. segments_in number_width octets.now
-        ≡ segment_of number_width front.0.now ∷ segments_in number_width front.1.now) }
-    ensures long { IfSome result (λ front. 2 ≤ length front.0.now) }
-    ensures shorter { IfSome result (λ front. length front.1.now < length octets.now) }
-{
-    let [_, count, ..] = octets else {
-        return None;
-    };
-    let len = 2 + usize::from(*count) * NUMBER_LEN;
-    if octets.len() < len {
-        return None;
-    }
-    Some(octets.split_at(len))
 }
 
 /// Adds the text of the path that octets are.

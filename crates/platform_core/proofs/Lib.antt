@@ -8,6 +8,7 @@ pub mod SearchLemmas
 pub mod EstablishedLemmas
 pub mod OpenLemmas
 pub mod CarryLemmas
+pub mod ConditionLemmas
 pub mod LinkLemmas
 pub mod WorkLemmas
 pub mod StepLemmas

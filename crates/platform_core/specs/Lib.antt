@@ -3,6 +3,7 @@ pub mod Outputs
 pub mod Open
 pub mod Turns
 pub mod States
+pub mod Conditions
 pub mod Following
 pub mod Joins
 pub mod Working

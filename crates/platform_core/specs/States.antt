@@ -1,5 +1,5 @@
 -- What contracts see of a platform: what can be asked of it, and whether memory was wanting.
-use Rattle.std.specs.Prelude.{◌≡◌, ℕ, Bool, true, false, List, min, Option, IsSome, refl}
+use Rattle.std.specs.Prelude.{◌≡◌, ℕ, Bool, true, false, List, [], ◌∷◌, ◌++◌, min, Option, IsSome, refl}
 use Rattle.std.specs.Coded.{Coded, code_by, coded×, coded_ℕ, coded_bool, coded_list}
 use Rattle.rcp_base.specs.IpPrefix.{IpPrefix}
 use Rattle.rcp_base.specs.declared.kinds.Kind.{Kind}
@@ -16,7 +16,8 @@ use Rattle.feed_meaning.specs.LinkStream.{LinkStream}
 use Rattle.feed_meaning.specs.Platform.{Connections}
 use Rattle.feed_meaning.specs.OutRecords.{MOST}
 use Rattle.platform_laws.specs.Platforms.{PlatformOf}
-use Rattle.platform_laws.specs.Asked.{given_route, pending_count}
+use Rattle.platform_laws.specs.Asked.{given_route, pending_count, all_pending}
+use Rattle.platform_laws.specs.Work.{seen_worked, updates_of_work, summary_of}
 use Rattle.platform_laws.specs.Records.{IsLinkedAt, seen_after, output_of}
 use Rattle.rcs_shards.specs.Servers.{roster_code}
 use Rattle.platform_core.specs.Codes.{sessions_code, stream_code, link_state_code}
@@ -53,6 +54,18 @@ pub record Steps (old new : PlatformOf) (item : FeedRecord) (out : List OutRecor
   pub linked : IsLinkedAt old item state edges
   pub after : new ≡ seen_after old item state edges
   pub output : out ≡ output_of old item state edges
+
+-- ---- a drain
+
+abbrev pub drain_record : FeedRecord
+drain_record = record { kind = kind.Drain; source = 0; body = [] }
+
+-- the platform after all pending prefixes were worked, and what is put out for it: the UPDATEs, and a summary
+abbrev pub drained : PlatformOf → PlatformOf
+drained seen = seen_worked (all_pending seen.shards) seen
+
+abbrev pub drained_output : PlatformOf → List OutRecord
+drained_output seen = updates_of_work (all_pending seen.shards) seen ++ summary_of (drained seen) ∷ []
 
 -- ---- how it is stored
 

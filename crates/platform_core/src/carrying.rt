@@ -51,6 +51,7 @@ fn carry_out(turn: Turn, shards: &mut Shards, out: &mut Outputs) -> Result<(), N
         events,
         claim: _,
         closed,
+        handled: _,
     } = actions;
     learn(shards, seat, events, &closed)?;
     out.add_messages(number, send)?;

@@ -28,6 +28,7 @@
 
 mod assigned;
 mod carrying;
+mod conditions;
 mod connections;
 mod links;
 mod output;

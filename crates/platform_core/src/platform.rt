@@ -11,7 +11,7 @@ ghost use Rattle.feed_meaning.specs.WholeFeeds.{kind_fault, roster_fault};
 ghost use Rattle.platform_laws.specs.Platforms.{IsSeen};
 ghost use Rattle.platform_laws.specs.Records.{new_platform};
 ghost use Rattle.platform_core.specs.Outputs.{AreFramed};
-ghost use Rattle.platform_core.specs.States.{IsNextGiven, pending_number, Steps, is_of_sessions};
+ghost use Rattle.platform_core.specs.States.{IsNextGiven, pending_number, Steps, is_of_sessions, drained, drained_output, drain_record};
 
 use crate::carrying::carry_out_all;
 use crate::connections::Connections;
@@ -21,10 +21,11 @@ use crate::sessions::{read_time, slot_named};
 use crate::work::{read_slice, work_all, work_slice};
 use feed_format::{FeedWhy, Kind, Out, Record};
 use rcp_base::{NoMemory, Prefix, Slot};
-use rcs_shards::Shards;
+use rcs_shards::{InThreads, InTurn, Shards, Workers};
 use roster::Roster;
 use std::alloc::Global;
 use std::marker::Model;
+use std::thread::Threads;
 
 /// The platform between two records. Contracts see what can be asked of it, and whether it is spent.
 #[derive(Drop)]
@@ -113,6 +114,31 @@ impl Platform {
         Ok(out.into_records())
     }
 
+    /// Acts on a D, as `step` does: works all pending prefixes, and answers the UPDATEs for the cells that change and a summary. With
+    /// `threads` the shards are worked side by side, in as many threads as there are processors.
+    ///
+    /// Whatever `threads` is, the answer is the same, and so is the platform after it. `NoMemory` where there was no room, which spends the
+    /// platform, and where it was spent.
+    pub fn drain_all<R: Threads + Sync>(
+        &mut self,
+        rt: &R,
+        threads: bool,
+    ) -> Result<Vec<Out>, NoMemory>
+        ensures after { OnOk result (self.new.seen ≡ drained self.old.seen) }
+        ensures output { IfOk result (λ out. out.items ≡ drained_output self.old.seen) }
+        ensures steps { IfOk result (λ out. Steps self.old.seen self.new.seen drain_record out.items) }
+        ensures framed { IfOk result (λ out. AreFramed out.items) }
+        ensures fresh { OnOk result ((self.old.spent ≡ false) × (self.new.spent ≡ false)) }
+        ensures spent { OnErr result (self.new.spent ≡ true) }
+        ensures stays { self.old.spent ≡ true → self.new ≡ self.old }
+    {
+        if self.is_spent {
+            return Err(NoMemory);
+        }
+        let out = self.drain_by(rt, threads)?;
+        Ok(out.into_records())
+    }
+
     /// How many prefixes are pending: 2^64 - 1 where there are more.
     pub fn pending(&self) -> u64
         ensures { result ≡ pending_number self.now.seen }
@@ -144,7 +170,7 @@ impl Platform {
             Kind::Links => self.take_links(body),
             Kind::Time => self.pass(item),
             Kind::Slice => self.work_slice(body),
-            Kind::Drain => self.drain(),
+            Kind::Drain => self.drain(&InTurn),
             _ => self.take_turns(item),
         }
     }
@@ -223,16 +249,31 @@ impl Platform {
         Ok(out)
     }
 
-    /// All pending prefixes are worked, and a summary follows.
-    fn drain(&mut self) -> Result<Outputs, NoMemory>
+    /// All pending prefixes are worked, with `threads` the shards side by side, and a summary follows.
+    fn drain_by<R: Threads + Sync>(&mut self, rt: &R, threads: bool) -> Result<Outputs, NoMemory>
         requires { self.old.spent ≡ false }
+        ensures steps { IfOk result (λ out. (item : FeedRecord) → item.kind ≡ kind.Drain → Steps self.old.seen self.new.seen item out) }
+        ensures unspent { OnOk result (self.new.spent ≡ false) }
+        ensures spent { OnErr result (self.new.spent ≡ true) }
+    {
+        if threads {
+            self.drain(&InThreads { threads: rt })
+        } else {
+            self.drain(&InTurn)
+        }
+    }
+
+    /// All pending prefixes are worked, and a summary follows.
+    fn drain<W: Workers>(&mut self, workers: &W) -> Result<Outputs, NoMemory>
+        requires ready { W.ready workers.now }
+        requires fresh { self.old.spent ≡ false }
         ensures steps { IfOk result (λ out. (item : FeedRecord) → item.kind ≡ kind.Drain → Steps self.old.seen self.new.seen item out) }
         ensures unspent { OnOk result (self.new.spent ≡ false) }
         ensures spent { OnErr result (self.new.spent ≡ true) }
     {
         self.is_spent = true;
         let mut out = Outputs::new(self.alloc);
-        work_all(&self.connections, &mut self.shards, &mut out)?;
+        work_all(workers, &self.connections, &mut self.shards, &mut out)?;
         self.updates = self.updates.saturating_add(out.len() as u64);
         out.add_summary(
             self.shards.connected_count(),

@@ -14,7 +14,7 @@ ghost use Rattle.platform_core.specs.Turns.{at_time, timed_in, TookTurn, DoAs};
 
 use crate::turns::Turn;
 use bgp_fault::{CEASE, Data, Fault, UNSPECIFIC};
-use bgp_msg::{MOST_OCTETS, write_notification};
+use bgp_msg::notification_message;
 use rcp_base::{NoMemory, RouterId, Slot};
 use roster::Roster;
 use session_core::{Actions, Closed, Session, Why};
@@ -221,10 +221,8 @@ pub fn refused(alloc: Global, number: u32) -> Result<Turn, NoMemory>
         sub: UNSPECIFIC,
         extra: Data::None,
     };
-    let mut message = [0; MOST_OCTETS];
-    let count = write_notification(&fault, &[], &mut message);
     let mut send = Vec::new(alloc);
-    send.push(Vec::from_slice(alloc, &message[..count])?)?;
+    send.push(notification_message(alloc, &fault, &[])?)?;
     Ok(Turn {
         number,
         seat: None,
@@ -237,6 +235,7 @@ pub fn refused(alloc: Global, number: u32) -> Result<Turn, NoMemory>
                 code: CEASE,
                 sub: UNSPECIFIC,
             }),
+            handled: 0,
         },
     })
 }
@@ -256,5 +255,6 @@ fn then_also(first: Actions, second: Actions) -> Result<Actions, NoMemory>
         events,
         claim: second.claim.or(first.claim),
         closed: second.closed.or(first.closed),
+        handled: first.handled.saturating_add(second.handled),
     })
 }

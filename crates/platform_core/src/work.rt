@@ -11,7 +11,7 @@ ghost use Rattle.platform_core.specs.Working.{records_to};
 use crate::connections::Connections;
 use crate::output::Outputs;
 use rcp_base::NoMemory;
-use rcs_shards::{Messages, Shards};
+use rcs_shards::{Messages, Shards, Workers};
 
 /// The shard that the body of a W names, and how many prefixes.
 pub fn read_slice(body: &[u8]) -> (u16, u32)
@@ -48,11 +48,13 @@ pub fn work_slice(
 }
 
 /// Works all pending prefixes, and puts out the UPDATEs.
-pub fn work_all(
+pub fn work_all<W: Workers>(
+    workers: &W,
     connections: &Connections,
     shards: &mut Shards,
     out: &mut Outputs,
 ) -> Result<(), NoMemory>
+    requires ready { W.ready workers.now }
     requires fresh { connections.now.spent ≡ false }
     requires members { connections.now.members ≡ length shards.old.roster.members }
     ensures after { OnOk result (shards.new ≡ worked (all_pending shards.old.shards) shards.old) }
@@ -60,7 +62,7 @@ pub fn work_all(
     ensures kept { Keeps shards.old shards.new }
 {
     let established = connections.established()?;
-    let lists = shards.work_all(&established.slots)?;
+    let lists = shards.work_all(workers, &established.slots)?;
     put_out(&established.numbers, lists, out)
 }
 

@@ -37,3 +37,6 @@ fn main(rt: HostRuntime) -> ExitCode {
     let _ = steps::report(status, &mut io::writer(&rt.stderr()));
     ExitCode::from(status.code())
 }
+
+#[cfg(test)]
+mod tests;

@@ -1,7 +1,8 @@
 //! A reader and a writer as a source and a sink. They tell no octets: what a file or a terminal gives and takes isn't
 //! known to any proof.
 
-ghost use Rattle.std.specs.Prelude.{◌≡◌, None, true};
+ghost use Rattle.std.specs.Prelude.{◌≡◌, None, true, OnOk, OnErr};
+ghost use Rattle.outside.specs.Told.{Rose};
 
 use outside::{Failed, Sink, Source};
 use std::io::{Read, Write};
@@ -64,7 +65,10 @@ impl<W> WriterSink<W> {
 
 impl<W: Write> WriterSink<W> {
     /// Writes what a buffer holds. A failure counts as a fault.
-    pub fn flush(&mut self) -> Result<(), Failed> {
+    pub fn flush(&mut self) -> Result<(), Failed>
+        ensures cause { OnErr result (Rose (self.old.faults) (self.new.faults)) }
+        ensures works { OnOk result (self.new.faults ≡ self.old.faults) }
+    {
         match self.writer.flush() {
             Ok(()) => Ok(()),
             Err(_) => {

@@ -1,7 +1,9 @@
 //! The steps from `main` to a run and back: the words, the run over a source and a sink that are flushed at the end, and the
 //! line and the code of its status.
 
-ghost use Rattle.std.specs.Prelude.{◌≡◌, ◌⊎◌};
+ghost use Rattle.std.specs.Prelude.{◌≡◌, ◌<◌, ◌⊎◌, true};
+ghost use Rattle.outside.specs.Told.{Rose};
+ghost use Rattle.rcp.specs.Flushes.{says_all_written};
 
 use crate::standard::WriterSink;
 use outside::Source;
@@ -49,7 +51,12 @@ pub fn run_words<R: Threads + Sync, S: Source, W: Write>(
 /// The status once the sink's writer has written what it held back. Where that fails, output is lost that was due with
 /// Done, Feed, Roster and Read, and the status is Write.
 fn flushed<W: Write>(status: Status, sink: &mut WriterSink<W>) -> Status
-    ensures { (result ≡ status) ⊎ (result ≡ Status.Write) }
+    // Write stands only where it stood before, or where the sink failed in the flush.
+    ensures cause { result ≡ Status.Write → (status ≡ Status.Write) ⊎ Rose (sink.old.faults) (sink.new.faults) }
+
+    // It takes the place only of a status that says that all output was written, and does so where the flush failed.
+    ensures kept { (result ≡ status) ⊎ ((says_all_written status ≡ true) × (result ≡ Status.Write)) }
+    ensures lost { sink.old.faults < sink.new.faults → says_all_written status ≡ true → result ≡ Status.Write }
 {
     match (status, sink.flush()) {
         (Status::Done | Status::Feed { .. } | Status::Roster { .. } | Status::Read, Err(_)) => {

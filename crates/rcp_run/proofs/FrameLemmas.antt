@@ -1,16 +1,15 @@
 -- Output records are read again from their octets.
-use Rattle.std.proofs.Common.{◌≡◌, ℕ, ◌+◌, ◌^◌, ◌<◌, ◌≤◌, false, ltb, List, [], ◌∷◌, ◌++◌, length, map, Some, refl, sym, ap, ◌∙◌, arith, append_assoc}
-use Rattle.std.specs.Int.{w32, to_be_bytes, from_be_bytes}
-use Rattle.std.specs.Prelude.{cond, take, None}
+use Rattle.std.proofs.Common.{◌≡◌, ℕ, ◌+◌, false, ltb, List, [], ◌∷◌, ◌++◌, length, map, Some, refl, ap, ◌∙◌, arith, append_assoc}
+use Rattle.std.specs.Int.{w32, to_be_bytes}
+use Rattle.std.specs.Prelude.{take}
 use Rattle.std.specs.List.{flat_map, AllByRecursion}
 use Rattle.std.proofs.lemmas.Bool.{le-ltb}
 use Rattle.std.proofs.lemmas.List.{length-append, take_all}
 use Rattle.std.proofs.lemmas.Nat.{from_be_bytes-to_be_bytes_4}
-use Rattle.rcp_base.specs.Cut.{cut}
 use Rattle.rcp_base.proofs.CutLemmas.{cut-append}
 use Rattle.rcp_base.specs.Feed.{OutRecord, out_octets, length_at, source_at, frame_size}
 use Rattle.feed_format.proofs.FrontLemmas.{frame_size_front}
-use Rattle.rcp_run.specs.Frames.{whole_frame, out_in, outs_in, IsFramed}
+use Rattle.feed_run.specs.Frames.{whole_frame, out_in, outs_in, IsFramed}
 
 -- the nine octets before the body
 abbrev header_of : OutRecord → List ℕ

@@ -1,25 +1,23 @@
--- The headline, over the octets that a sink took; and which status the end of a feed gives.
-use Rattle.std.proofs.Common.{◌≡◌, ℕ, ◌+◌, ◌<◌, List, [], ◌∷◌, ◌++◌, length, take, drop, All, Option, Some, None, refl, sym, ap, subst, ◌∙◌, ◌⊎◌, inl, inr, append_assoc}
+-- The headline, over the octets that a sink took.
+use Rattle.std.proofs.Common.{◌≡◌, ℕ, ◌<◌, List, [], ◌∷◌, ◌++◌, take, drop, All, Option, Some, refl, sym, ap, subst, ◌∙◌, append_assoc}
 use Rattle.std.specs.List.{flat_map, AllByRecursion}
 use Rattle.std.proofs.lemmas.Grind.{flat_map-append}
 use Rattle.std.proofs.lemmas.List.{take-append-drop, append_cancel_left}
-use Rattle.outside.specs.Told.{Rose, behind}
-use Rattle.rcp_base.specs.Feed.{FeedRecord, OutRecord, IsRecord, begins, out_octets}
+use Rattle.outside.specs.Told.{behind}
+use Rattle.rcp_base.specs.Feed.{FeedRecord, OutRecord, IsRecord, out_octets}
 use Rattle.rcp_base.specs.Roster.{RosterOf}
 use Rattle.rcp_model.specs.Updates.{replay}
 use Rattle.feed_meaning.specs.Platform.{Platform, fresh}
 use Rattle.feed_meaning.specs.OutRecords.{sent_to}
-use Rattle.feed_meaning.specs.Runs.{act, platform_after, all_output, NumbersRise, Headline}
+use Rattle.feed_meaning.specs.Runs.{act, platform_after, all_output, NumbersRise}
 use Rattle.feed_meaning.specs.Work.{cell_of}
-use Rattle.feed_meaning.specs.WholeFeeds.{FeedEnd, feed_meaning, outputs}
+use Rattle.feed_meaning.specs.WholeFeeds.{feed_meaning, outputs}
 use Rattle.feed_meaning.proofs.HeadlineLemmas.{headline}
 use Rattle.feed_format.specs.declared.status.Status.{Status}
-use Rattle.feed_format.specs.declared.status.Status.TheVariants.{Done, Usage, Feed, Roster, Read, Write, NoMemory, NoPath, NetFault}
-use Rattle.rcp_run.specs.Frames.{IsFramed, outs_in}
-use Rattle.rcp_run.specs.Statuses.{HasCause, EndsSo, status_at}
-use Rattle.rcp_run.specs.Written.{output_with}
+use Rattle.feed_run.specs.Frames.{IsFramed}
+use Rattle.feed_run.specs.Written.{output_with}
 use Rattle.rcp_run.specs.Headline.{Gives, GivesBy, HeadlineWritten}
-use Rattle.rcp_run.specs.Going.{AreRead, AreReadWith, Answers}
+use Rattle.feed_run.specs.Going.{AreRead, AreReadWith, Answers}
 use Rattle.rcp_run.proofs.FrameLemmas.{outs-again}
 
 -- ---- the first of some records
@@ -97,17 +95,3 @@ headline-written status roster octets before written now taken_old taken_new fou
       each = λ count. subst (GivesBy roster (take count w.items)) (sym (wrote_of roster (feed_meaning octets).roster w.items w.part before written found wrote))
           (gives_front roster w.items w.part (known_of roster (feed_meaning octets).roster w.items found h.known) count);
     }
-
--- ---- the status of a feed's end
-
-pub completes : (status : Status) (end : FeedEnd) (a b c d : ℕ) → HasCause status a b c d → EndsSo status end → (Rose a b → ⊥) → (Rose c d → ⊥)
-    → (status ≡ status_at end) ⊎ (status ≡ NoMemory)
-completes Done end a b c d cause ended read write = inl (sym (ap status_at ended))
-completes Usage end a b c d cause ended read write = absurd cause
-completes (Feed number why) end a b c d cause ended read write = inl (sym (ap status_at ended))
-completes (Roster number line why) end a b c d cause ended read write = inl (sym (ap status_at ended))
-completes Read end a b c d cause ended read write = absurd (read cause)
-completes Write end a b c d cause ended read write = absurd (write cause)
-completes NoMemory end a b c d cause ended read write = inr refl
-completes (NoPath refused) end a b c d cause ended read write = absurd cause
-completes NetFault end a b c d cause ended read write = absurd cause

@@ -1,9 +1,7 @@
-pub mod Words
-pub mod FeedLemmas
-pub mod NumberLemmas
+pub mod WordLemmas
 pub mod FrameLemmas
-pub mod WrittenLemmas
-pub mod AnswerLemmas
-pub mod StepLemmas
-pub mod BeginLemmas
 pub mod HeadlineLemmas
+pub mod AskedLemmas
+pub mod ReportLemmas
+pub mod TableLemmas
+pub mod CommandLemmas

@@ -12,8 +12,8 @@ use Rattle.feed_meaning.specs.Runs.{platform_after}
 use Rattle.feed_meaning.specs.WholeFeeds.{outputs}
 use Rattle.feed_meaning.specs.Work.{cell_of}
 use Rattle.feed_format.specs.declared.status.Status.{Status}
-use Rattle.rcp_run.specs.Frames.{outs_in}
-use Rattle.rcp_run.specs.Written.{Takes, Answered, records_in}
+use Rattle.feed_run.specs.Frames.{outs_in}
+use Rattle.feed_run.specs.Written.{Takes, Answered, records_in}
 
 -- These octets were written when the records were answered: for each router that is connected then, and each prefix that isn't pending, the
 -- messages to its connection, replayed, give at the prefix exactly what the router is offered.

@@ -1,7 +1,7 @@
 pub mod Commands
-pub mod Frames
-pub mod Statuses
-pub mod Written
 pub mod Headline
-pub mod Going
+pub mod Tables
+pub mod Entries
+pub mod Reports
+pub mod Making
 pub mod Turns

@@ -1,12 +1,10 @@
 -- One record more of a run, whose output is written.
 use Rattle.std.specs.Prelude.{◌≡◌, ℕ, List, Option, Some}
-use Rattle.rcp_base.specs.Feed.{FeedRecord}
 use Rattle.feed_meaning.specs.Platform.{Platform}
-use Rattle.feed_meaning.specs.Runs.{act}
 use Rattle.platform_laws.specs.Platforms.{IsSeen}
 use Rattle.feed_format.specs.declared.status.Status.{Status}
-use Rattle.rcp_run.specs.Going.{AnswersFrom}
-use Rattle.rcp_run.specs.declared.feed_run.FeedRun.{FeedRun}
+use Rattle.feed_run.specs.Going.{AnswersFrom}
+use Rattle.feed_run.specs.declared.records.FeedRun.{FeedRun}
 
 -- what is answered from after the record is the answer from before it
 pub record GoesOnFrom (platform next : Platform) (old new : FeedRun) (octets : List ℕ) (now taken written : Option (List ℕ)) : Type 0 where

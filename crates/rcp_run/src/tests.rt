@@ -4,6 +4,7 @@ mod decisions;
 mod faults;
 mod link_state;
 mod refusals;
+mod reports;
 mod sessions;
 mod slices;
 mod text;
@@ -90,12 +91,17 @@ fn check<R: Threads + Sync>(rt: &R, alloc: Global, rows: &[Row]) -> Result<(), F
 #[test]
 fn other_words_are_no_command(rt: HostRuntime) -> Result<(), Fail> {
     let alloc = rt.alloc();
-    let lists: [&[&str]; 8] = [
+    let lists: [&[&str]; 13] = [
         &[],
         &[""],
         &["Replay"],
         &["replays"],
         &["replay", "replay"],
+        &["tables", "agree"],
+        &["path", "10.0.0.2"],
+        &["path", "10.0.0.256", "203.0.113.0/24"],
+        &["path", "10.0.0.2", "203.0.113.0/33"],
+        &["path", "10.0.0.2", "203.0.113.0/24", ""],
         &["make", "x"],
         &["--help"],
         &["--", "replay"],

@@ -1,11 +1,12 @@
 -- The candidates of a slot: which they are, how they are listed, and what is tied among them.
 use Rattle.std.proofs.Common.{◌≡◌, ℕ, zero, suc, ◌+◌, ◌<◌, ◌≤◌, Bool, true, false, cond, ◌&&◌, eqb, List, [], ◌∷◌, ◌++◌, length, take, get_or, Option, Some, None, is_some, IsSome, refl, sym, ap, subst, ◌∙◌, inl, inr, ◌⊎◌, arith, get_or-set_same, get_or-set_other}
-use Rattle.std.specs.Prelude.{◌↔◌, Contains, AllPairs, IfSome, IsSomeAnd, slice_get}
+use Rattle.std.specs.Prelude.{◌↔◌, ◌≢◌, Contains, AllPairs, IfSome, slice_get}
 use Rattle.std.specs.FinMap as map_of
 use Rattle.std.proofs.Math.ListN.{set, length-set}
 use Rattle.std.proofs.lemmas.Bool.{false≢true, and_parts, and_from, cases_eq}
 use Rattle.rcp_model.proofs.MemberLemmas.{Contains-none, Contains-cases, Contains-head, Contains-tail}
-use Rattle.std.proofs.lemmas.List.Elements.{Contains-push, Contains-push_cases, Contains-append_left}
+use Rattle.std.proofs.lemmas.List.Elements.{Contains-push, Contains-push_cases, Contains-append_left, Contains-get_or}
+use Rattle.std.proofs.lemmas.List.Quantifiers.{all_pairs_push}
 use Rattle.std.proofs.lemmas.List.{take_more}
 use Rattle.std.proofs.lemmas.Option.{slice_get_within, get_or_from_slice_get}
 use Rattle.rcp_base.specs.IpPrefix.{IpPrefix}
@@ -18,7 +19,7 @@ use Rattle.rcp_model.specs.ServerRibs.{Values, Rib, route_reader, value_contende
 use Rattle.rcp_model.proofs.FilterLemmas.{member_of_tied, tied_member}
 use Rattle.cost_rows.specs.Views.{ViewOf, identifier_at}
 use Rattle.cost_rows.proofs.KeyLemmas.{identifier_is}
-use Rattle.egress_rank.specs.Egresses.{AreTiedOf, AreReached, IsEgress}
+use Rattle.egress_rank.specs.Egresses.{AreTiedOf, AreReached, IsEgress, IsMarked}
 use Rattle.egress_rank.proofs.EgressLemmas.{egress_choice}
 use Rattle.adj_ribs.specs.Bases.{Bases, announced_at, route_of, IsAnnouncer, AreNumbered}
 use Rattle.rcs_shard.specs.Settling.{candidates_at, offers_at, IsKept, ReachAlike, chosen_from}
@@ -353,29 +354,29 @@ module _ (bases : Bases) (view : ViewOf) (p : IpPrefix) (slot : ℕ) (from : Lis
       ap (of_other slot (at_prefix bases.announced p))
       (egress_choice view.members (slot_cost view.edges view.members slot) slot (candidates_at bases view p slot) (Contains slots) egress tied (candidates_reached bases view p slot) is)
 
--- ---- the tied ones up to a place
+-- ---- the marked ones up to a place
 
-abbrev pub TiedBefore : List Contender → ℕ → ℕ → Type 0
-TiedBefore list place e = (a : Contender) × Contains (take place list) a × Contains (tied list) a × (a.slot ≡ e)
+abbrev pub MarkedBefore : List Contender → List Bool → ℕ → ℕ → Type 0
+MarkedBefore list marks place e = (a : Contender) × Contains (take place list) a × IsMarked marks a.slot × (a.slot ≡ e)
 
-module _ (list : List Contender) (place : ℕ) (x : Contender) (within : place < length list) (is_x : x ≡ get_or list place x) where
+module _ (list : List Contender) (marks : List Bool) (place : ℕ) (x : Contender) (within : place < length list) (is_x : x ≡ get_or list place x) where
   more : take (place + 1) list ≡ take place list ++ x ∷ []
   more = take_more list place x within ∙ ap (λ (y : Contender). take place list ++ y ∷ []) (sym is_x)
 
-  pub before_skip : (slots : List ℕ) → (Contains (tied list) x → ⊥) → ((e : ℕ) → Contains slots e ↔ TiedBefore list place e) → (e : ℕ) → Contains slots e ↔ TiedBefore list (place + 1) e
-  before_skip slots untied are e = (
+  pub before_skip : (slots : List ℕ) → (IsMarked marks x.slot → ⊥) → ((e : ℕ) → Contains slots e ↔ MarkedBefore list marks place e) → (e : ℕ) → Contains slots e ↔ MarkedBefore list marks (place + 1) e
+  before_skip slots unmarked are e = (
     (λ inside. let t = (are e).0 inside in (t.0, subst (λ (l : List Contender). Contains l t.0) (sym more) (Contains-append_left (take place list) (x ∷ []) t.0 t.1), t.2, t.3)),
     (λ t. elim (Contains-push_cases (take place list) x t.0 (subst (λ (l : List Contender). Contains l t.0) more t.1)) [
       | inl before ↦ (are e).1 (t.0, before, t.2, t.3)
-      | inr same ↦ absurd (untied (subst (Contains (tied list)) (sym same) t.2))
+      | inr same ↦ absurd (unmarked (subst (λ (a : Contender). IsMarked marks a.slot) (sym same) t.2))
     ]),
   )
 
-  pub before_more : (slots : List ℕ) → Contains (tied list) x → ((e : ℕ) → Contains slots e ↔ TiedBefore list place e) → (e : ℕ) → Contains (slots ++ x.slot ∷ []) e ↔ TiedBefore list (place + 1) e
-  before_more slots is_tied are e = (
+  pub before_more : (slots : List ℕ) → IsMarked marks x.slot → ((e : ℕ) → Contains slots e ↔ MarkedBefore list marks place e) → (e : ℕ) → Contains (slots ++ x.slot ∷ []) e ↔ MarkedBefore list marks (place + 1) e
+  before_more slots is_marked are e = (
     (λ inside. elim (Contains-push_cases slots x.slot e inside) [
       | inl before ↦ let t = (are e).0 before in (t.0, subst (λ (l : List Contender). Contains l t.0) (sym more) (Contains-append_left (take place list) (x ∷ []) t.0 t.1), t.2, t.3)
-      | inr same ↦ (x, subst (λ (l : List Contender). Contains l x) (sym more) (Contains-push (take place list) x), is_tied, same)
+      | inr same ↦ (x, subst (λ (l : List Contender). Contains l x) (sym more) (Contains-push (take place list) x), is_marked, same)
     ]),
     (λ t. elim (Contains-push_cases (take place list) x t.0 (subst (λ (l : List Contender). Contains l t.0) more t.1)) [
       | inl before ↦ Contains-append_left slots (x.slot ∷ []) e ((are e).1 (t.0, before, t.2, t.3))
@@ -383,9 +384,43 @@ module _ (list : List Contender) (place : ℕ) (x : Contender) (within : place <
     ]),
   )
 
--- what is told of the element at a place
-pub told : (list : List Contender) (place : ℕ) (x : Contender) → place < length list → x ≡ get_or list place x → (P : Contender → Type 0) → IsSomeAnd (slice_get list place) P → P x
-told list place x within is P holds = subst (λ (o : Option Contender). IsSomeAnd o P) (got list place x within ∙ ap Some (sym is)) holds
+-- the mark at the slot of the element at a place
+pub mark_there : (marks : List Bool) (slot : ℕ) (mark : Bool) → slot < length marks → mark ≡ get_or marks slot mark → slice_get marks slot ≡ Some mark
+mark_there marks slot mark within is = got marks slot mark within ∙ ap Some (sym is)
+
+-- ---- distinct slots
+
+-- the slots of what is listed rise, and are below those of the announcers to come
+pub record Rises (items : List (ℕ × ℕ)) (index : ℕ) (list : List Contender) : Type 0 where
+  pub rising : AllPairs (λ (a b : Contender). a.slot < b.slot) list
+  pub below : (a : Contender) → Contains list a → (k : ℕ) (d : ℕ × ℕ) → index ≤ k → k < length items → a.slot < (get_or items k d).0
+
+pub rises_none : (items : List (ℕ × ℕ)) (list : List Contender) → Rises items 0 (take 0 list)
+rises_none items list = record {
+  rising = λ i j d less within. absurd (omega arith);
+  below = λ a inside. absurd (Contains-none a inside);
+}
+
+pub rises_skip : (items : List (ℕ × ℕ)) (i : ℕ) (list : List Contender) → Rises items i list → Rises items (i + 1) list
+rises_skip items i list rises = record { rising = rises.rising; below = λ a inside k d past. rises.below a inside k d (omega arith) }
+
+pub rises_more : (items : List (ℕ × ℕ)) → AllPairs (λ (a b : ℕ × ℕ). a.0 < b.0) items → (i : ℕ) (item : ℕ × ℕ) → i < length items → item ≡ get_or items i item
+    → (list : List Contender) (x : Contender) → x.slot ≡ item.0 → Rises items i list → Rises items (i + 1) (list ++ x ∷ [])
+rises_more items ordered i item within is_item list x slot_is rises = record {
+  rising = all_pairs_push (λ (a b : Contender). a.slot < b.slot) list x rises.rising (λ k d inside.
+      let less = rises.below (get_or list k d) (Contains-get_or list k d inside) i item (omega arith) within in
+      omega (arith, less, ap (λ (y : ℕ × ℕ). y.0) is_item, slot_is));
+  below = λ a inside k d past later. elim (Contains-push_cases list x a inside) [
+    | inl before ↦ rises.below a before k d (omega arith) later
+    | inr same ↦
+        let here : get_or items i d ≡ item = get_or_from_slice_get items i item d (got items i item within ∙ ap Some (sym is_item)) in
+        let less : (get_or items i d).0 < (get_or items k d).0 = ordered i k d (omega arith) later in
+        omega (arith, less, ap (λ (y : ℕ × ℕ). y.0) here, slot_is, ap (λ (c : Contender). c.slot) same)
+  ];
+}
+
+pub rises_apart : (items : List (ℕ × ℕ)) (i : ℕ) (list : List Contender) → Rises items i list → AllPairs (λ (a b : Contender). a.slot ≢ b.slot) list
+rises_apart items i list rises j k d less within same = omega (arith, rises.rising j k d less within, same)
 
 -- the same, said of equal lists
 pub listed_to : (bases : Bases) (view : ViewOf) (p : IpPrefix) (slot : ℕ) (passed new_passed : List (ℕ × ℕ)) (list new_list : List Contender) (from new_from : List (Option (ℕ × ℕ)))

@@ -532,10 +532,11 @@ module _ (number shards : ℕ) (view : ViewOf) (connected : SlotsOf) (bases : Ba
       joined_view number shards view connected bases (moved_marks bases pending view other)
       (joined_union number shards view connected bases pending joined (λ e. cost_differs view.edges other.edges view.members e (length view.members))) other same
 
-  pub places_moved : (old new : List ℕ) (list from tied : ℕ) → AreClasses other new → ArePlaces view old list from tied → ArePlaces other new list from tied
-  places_moved old new list from tied classes places = record {
+  pub places_moved : (old new : List ℕ) (list from marks tied : ℕ) → AreClasses other new → ArePlaces view old list from marks tied → ArePlaces other new list from marks tied
+  places_moved old new list from marks tied classes places = record {
     classes_are = classes;
     list_is = places.list_is ∙ sym (ap length same);
     from_is = places.from_is ∙ sym (ap length same);
+    marks_is = places.marks_is ∙ sym (ap length same);
     tied_is = places.tied_is ∙ sym (ap length same);
   }

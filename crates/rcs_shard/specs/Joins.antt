@@ -59,8 +59,9 @@ pub record IsJoined (number shards : ℕ) (view : ViewOf) (connected : SlotsOf) 
   pub usable : AreUsable bases
 
 -- the classes of the members, and a place for each member
-pub record ArePlaces (view : ViewOf) (classes : List ℕ) (list from tied : ℕ) : Type 0 where
+pub record ArePlaces (view : ViewOf) (classes : List ℕ) (list from marks tied : ℕ) : Type 0 where
   pub classes_are : AreClasses view classes
   pub list_is : list ≡ length view.members
   pub from_is : from ≡ length view.members
+  pub marks_is : marks ≡ length view.members
   pub tied_is : tied ≡ length view.members

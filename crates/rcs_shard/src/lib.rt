@@ -39,6 +39,3 @@ mod slots;
 
 pub use adj_ribs::AdjRibs;
 pub use shard::Shard;
-
-#[cfg(test)]
-mod tests;

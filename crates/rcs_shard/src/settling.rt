@@ -11,7 +11,7 @@ use crate::slots::SlotSet;
 use adj_ribs::{AdjRibs, Announcer};
 use cost_rows::View;
 use decision::Candidate;
-use egress_rank::nearest_in;
+use egress_rank::{Marks, nearest_in};
 use rcp_base::{Prefix, Slot};
 
 /// Gives each connected slot what it is offered at a prefix.
@@ -23,6 +23,7 @@ pub fn settle(
     p: Prefix,
     list: &mut [Candidate],
     from: &mut [Option<Announcer>],
+    marks: &mut Marks,
     slots: &mut [Slot],
 )
     requires members { ribs.old.members ≡ length view.now.members }
@@ -31,8 +32,10 @@ pub fn settle(
     requires classes { AreClasses view.now classes.now }
     requires list { length list.old ≡ length view.now.members }
     requires from { length from.old ≡ length view.now.members }
+    requires marks { length marks.old ≡ length view.now.members }
     requires slots { length slots.old ≡ length view.now.members }
-    ensures { Settles p (offers_at ribs.old view.now p) (λ s. nat_lt s (length view.now.members) && has_slot connected.now s) ribs.old ribs.new }
+    ensures settled { Settles p (offers_at ribs.old view.now p) (λ s. nat_lt s (length view.now.members) && has_slot connected.now s) ribs.old ribs.new }
+    ensures marks { length marks.new ≡ length marks.old }
 {
     for class in 0..view.members().len() {
         if classes[class] == Slot(class as u16) {
@@ -45,6 +48,7 @@ pub fn settle(
                 p,
                 list,
                 from,
+                marks,
                 slots,
             );
         }
@@ -61,6 +65,7 @@ fn settle_class(
     p: Prefix,
     list: &mut [Candidate],
     from: &mut [Option<Announcer>],
+    marks: &mut Marks,
     slots: &mut [Slot],
 )
     requires members { ribs.old.members ≡ length view.now.members }
@@ -69,11 +74,13 @@ fn settle_class(
     requires classes { AreClasses view.now classes.now }
     requires list { length list.old ≡ length view.now.members }
     requires from { length from.old ≡ length view.now.members }
+    requires marks { length marks.old ≡ length view.now.members }
     requires slots { length slots.old ≡ length view.now.members }
-    ensures { Settles p (offers_at ribs.old view.now p) (λ s. is_in_class classes.now class s && has_slot connected.now s) ribs.old ribs.new }
+    ensures settled { Settles p (offers_at ribs.old view.now p) (λ s. is_in_class classes.now class s && has_slot connected.now s) ribs.old ribs.new }
+    ensures marks { length marks.new ≡ length marks.old }
 {
     let count = list_candidates(ribs, view, p, class, list, from);
-    let tied = list_tied(&list[..count], slots);
+    let tied = list_tied(&list[..count], marks, slots);
     settle_slots(
         ribs,
         view,

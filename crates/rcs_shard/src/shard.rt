@@ -15,6 +15,7 @@ use crate::slots::SlotSet;
 use adj_ribs::{AdjRibs, Announcer};
 use cost_rows::View;
 use decision::Candidate;
+use egress_rank::Marks;
 use pending_marks::PendingMarks;
 use rcp_base::{Addr, Member, NoMemory, Prefix, Slot, shard_of};
 use rcp_model::Route;
@@ -35,9 +36,10 @@ pub struct Shard {
     pending: PendingMarks,
     /// The class of each slot.
     classes: Vec<Slot>,
-    /// Places for the candidates, by slot for their announcers, and for the tied slots.
+    /// Places for the candidates, by slot for their announcers and for marks, and for the tied slots.
     list: Vec<Candidate>,
     from: Vec<Option<Announcer>>,
+    marks: Marks,
     tied: Vec<Slot>,
 }
 
@@ -53,7 +55,7 @@ impl Model for Shard {
 
     ghost view = { λ s. shard_in s.number s.shards s.view.value s.connected s.ribs s.pending };
 
-    ghost invariant = { λ s. IsJoined s.number s.shards s.view.value s.connected s.ribs s.pending × ArePlaces s.view.value s.classes.items (length s.list.items) (length s.from.items) (length s.tied.items) };
+    ghost invariant = { λ s. IsJoined s.number s.shards s.view.value s.connected s.ribs s.pending × ArePlaces s.view.value s.classes.items (length s.list.items) (length s.from.items) (length s.marks) (length s.tied.items) };
 }
 
 impl Shard {
@@ -85,6 +87,7 @@ impl Shard {
             classes,
             list: vec![in alloc; NOBODY; count]?,
             from: vec![in alloc; None; count]?,
+            marks: Marks::new(alloc, members)?,
             tied: vec![in alloc; Slot(0); count]?,
         })
     }
@@ -197,6 +200,7 @@ impl Shard {
             p,
             &mut self.list,
             &mut self.from,
+            &mut self.marks,
             &mut self.tied,
         );
         Some(p)
@@ -276,6 +280,16 @@ impl Shard {
         ensures after { self.new ≡ taken slot result self.old }
     {
         self.ribs.take_dirty(slot)
+    }
+
+    /// The prefix that `take_offer` would give, with the route that the slot is given there. The route can be offered: it isn't long. It takes constant time.
+    pub fn dirty_cell(&self, slot: Slot) -> Option<(Prefix, Option<&Route>)>
+        requires { slot < length self.now.members }
+        ensures least { IsLeastDirty self.now slot (option_map (λ found. found.0) result) }
+        ensures route { IfSome result (λ found. option_map (λ route. route.now) found.1 ≡ given_at self.now slot found.0) }
+        ensures usable { IfSome result (λ found. IfSome found.1 (λ route. is_usable route.now ≡ true)) }
+    {
+        self.ribs.dirty_cell(slot)
     }
 
     /// The prefix that `take_offer` would give. It cleans nothing.

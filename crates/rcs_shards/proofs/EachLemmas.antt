@@ -43,6 +43,16 @@ module _ {S : Type 0} (f : S → S) where
   changed-all (suc n) [] all = refl
   changed-all (suc n) (x ∷ xs) all = ap (λ l. f x ∷ l) (changed-all n xs (omega (arith, all)))
 
+  -- each element is changed, in whatever order
+  pub changed-each : (xs ys : List S) → length ys ≡ length xs → ((i : ℕ) (d : S) → i < length xs → get_or ys i d ≡ f (get_or xs i d)) → ys ≡ map f xs
+  changed-each [] [] long each = refl
+  changed-each [] (y ∷ ys) long each = absurd (omega (arith, long))
+  changed-each (x ∷ xs) [] long each = absurd (omega (arith, long))
+  changed-each (x ∷ xs) (y ∷ ys) long each =
+      let first = each 0 x (omega arith) in
+      let others = changed-each xs ys (omega (arith, long)) (λ i d low. each (suc i) d (omega (arith, low))) in
+      λ k. first k ∷ others k
+
 -- a list that is written back whole
 pub written_back : {S : Type 0} (n : ℕ) (xs ys : List S) → n ≡ length xs → length ys ≡ length xs → take n (ys ++ drop (length ys) xs) ≡ ys
 written_back zero [] [] is long = refl

@@ -1,6 +1,7 @@
 pub mod PlaceLemmas
 pub mod EachLemmas
 pub mod LeastLemmas
+pub mod OfferLemmas
 pub mod EventLemmas
 pub mod WorkLemmas
 pub mod ChangeLemmas

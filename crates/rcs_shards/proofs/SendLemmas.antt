@@ -18,7 +18,6 @@ use Rattle.rcp_model.proofs.PackingLemmas.{groups-filled}
 use Rattle.platform_laws.specs.Work.{cells_at}
 use Rattle.rcs_shard.specs.Shards.{ShardOf}
 use Rattle.rcs_shards.specs.Dirty.{has_dirty, cleaned, AreReady, AreDirty, Empties, cells_of}
-use Rattle.rcs_shards.proofs.DirtyLemmas.{dirty-same}
 use Rattle.rcs_shards.proofs.FinishLemmas.{ribs-kept}
 
 pub take_past : {X : Type 0} (xs : List X) (n : ℕ) → length xs ≤ n → take n xs ≡ xs
@@ -50,13 +49,12 @@ module _ (roster : RosterOf) (slots : List ℕ) (distinct : AllPairs (λ a b. a 
   fresh : (k : ℕ) → k < count → get_or slots k 0 ≡ slot → ⊥
   fresh k below same = distinct k count 0 below low same
 
-  pub sends-more : Empties roster slot before now → (prefixes : List IpPrefix) → AreDirty roster before slot prefixes → (messages : List (List ℕ)) → messages ≡ packed (cells_of roster now slot prefixes)
+  pub sends-more : Empties roster slot before now → (messages : List (List ℕ)) → ((prefixes : List IpPrefix) → AreDirty roster before slot prefixes → messages ≡ packed (cells_of roster before slot prefixes))
       → Sends roster slots (suc count) first now (lists ++ messages ∷ [])
-  sends-more empties prefixes dirty messages is = record {
+  sends-more empties messages is = record {
     sent = λ all are.
-        let here : AreDirty roster first slot prefixes = record { rising = dirty.rising; exact = λ p. dirty.exact p ∙ so_far.waiting slot fresh p } in
-        let same : prefixes ≡ all slot = dirty-same roster first slot prefixes (all slot) here (are slot) in
-        (λ i. so_far.sent all are i ++ (is ∙ same_cells prefixes ∙ ap (λ ps. packed (cells_of roster first slot ps)) same) i ∷ [])
+        let here : AreDirty roster before slot (all slot) = record { rising = (are slot).rising; exact = λ p. (are slot).exact p ∙ sym (so_far.waiting slot fresh p) } in
+        (λ i. so_far.sent all are i ++ (is (all slot) here ∙ same_cells (all slot)) i ∷ [])
         ∙ sym (map-append (packed_at roster first all) (take count slots) (slot ∷ []))
         ∙ ap (map (packed_at roster first all)) (sym (take-suc slots count 0 low));
     waiting = λ s none p.
@@ -65,8 +63,8 @@ module _ (roster : RosterOf) (slots : List ℕ) (distinct : AllPairs (λ a b. a 
     kept = empties.kept ∙ so_far.kept;
     ready = empties.ready;
   } where
-    same_cells : (ps : List IpPrefix) → packed (cells_of roster now slot ps) ≡ packed (cells_of roster first slot ps)
-    same_cells ps = ap (λ (rs : List (Ribs RouteFields)). packed (cells_at roster rs slot ps)) (ribs-kept first now (empties.kept ∙ so_far.kept))
+    same_cells : (ps : List IpPrefix) → packed (cells_of roster before slot ps) ≡ packed (cells_of roster first slot ps)
+    same_cells ps = ap (λ (rs : List (Ribs RouteFields)). packed (cells_at roster rs slot ps)) (ribs-kept first before so_far.kept)
 
 pub sends-all : (roster : RosterOf) (slots : List ℕ) (count : ℕ) (first now : List ShardOf) (lists : List (List (List ℕ))) → Sends roster slots count first now lists → length slots ≤ count
     → (prefixes : ℕ → List IpPrefix) → ((slot : ℕ) → AreDirty roster first slot (prefixes slot)) → lists ≡ map (packed_at roster first prefixes) slots
@@ -111,11 +109,13 @@ short-messages f (m ∷ ms) each (suc k) d low = short-messages f ms each.1 k d 
 
 -- a turn of the loop
 pub sends-turn : (roster : RosterOf) (slots : List ℕ) → AllPairs (λ a b. a ≢ b) slots → (count : ℕ) → count < length slots → (first before now : List ShardOf) (lists more : List (List (List ℕ)))
-    → Sends roster slots count first before lists → (slot : ℕ) → slot ≡ get_or slots count slot → Empties roster slot before now → (prefixes : List IpPrefix) → AreDirty roster before slot prefixes
-    → (messages : List (List ℕ)) → messages ≡ packed (cells_of roster now slot prefixes) → more ≡ lists ++ messages ∷ [] → Sends roster slots (count + 1) first now more
-sends-turn roster slots distinct count low first before now lists more so_far slot read empties prefixes dirty messages is made =
+    → Sends roster slots count first before lists → (slot : ℕ) → slot ≡ get_or slots count slot → Empties roster slot before now
+    → (messages : List (List ℕ)) → ((prefixes : List IpPrefix) → AreDirty roster before slot prefixes → messages ≡ packed (cells_of roster before slot prefixes))
+    → more ≡ lists ++ messages ∷ [] → Sends roster slots (count + 1) first now more
+sends-turn roster slots distinct count low first before now lists more so_far slot read empties messages is made =
     let here : slot ≡ get_or slots count 0 = get_or_read slots count slot low read 0 in
     subst (λ n. Sends roster slots n first now more) (sym (add-one count))
     (subst (Sends roster slots (suc count) first now) (sym made)
     (sends-more roster slots distinct count low first before now lists so_far
-    (subst (λ s. Empties roster s before now) here empties) prefixes (subst (λ s. AreDirty roster before s prefixes) here dirty) messages (is ∙ ap (λ s. packed (cells_of roster now s prefixes)) here)))
+    (subst (λ s. Empties roster s before now) here empties) messages
+    (subst (λ s. (prefixes : List IpPrefix) → AreDirty roster before s prefixes → messages ≡ packed (cells_of roster before s prefixes)) here is)))

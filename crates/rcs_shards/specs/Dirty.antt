@@ -1,13 +1,15 @@
 -- The cells that change by work are dirty until they are sent.
 use Rattle.std.specs.Prelude.{◌≡◌, ℕ, ◌+◌, ◌<◌, ◌==◌, Bool, false, true, not, ◌&&◌, List, [], ◌∷◌, map, take, length, Option, Some, None, slice_get, slice_set}
+use Rattle.std.specs.List.{AllByRecursion}
 use Rattle.std.specs.FinSet as set_of
 use Rattle.std.specs.declared.cmp.Ordering.TheVariants.{Less}
 use Rattle.rcp_base.specs.IpPrefix.{IpPrefix, prefix_cmp}
 use Rattle.rcp_base.specs.Maps.{same_prefix, is_among}
 use Rattle.rcp_base.specs.Roster.{RosterOf}
-use Rattle.rcp_model.specs.Cells.{Cell}
+use Rattle.rcp_model.specs.Cells.{Cell, IsSendable}
 use Rattle.rcp_model.specs.Rising.{IsRising}
-use Rattle.rcp_model.specs.Routes.{RouteFields}
+use Rattle.rcp_model.specs.Routes.{RouteFields, OfferFields}
+use Rattle.update_pack.specs.Shown.{cell_of}
 use Rattle.rcp_model.specs.ServerRibs.{route_reader, Ribs, ribs_after_all}
 use Rattle.platform_laws.specs.Parts.{shard_number}
 use Rattle.platform_laws.specs.Asked.{rising_of}
@@ -23,6 +25,10 @@ sliced count shard = record shard {
   ribs = ribs_after_all (route_reader shard.members) (works (take count (rising_of shard.ribs.pending))) shard.ribs;
   dirty = dirty_over (route_reader shard.members) (take count (rising_of shard.ribs.pending)) shard.ribs shard.dirty;
 }
+
+-- the shard after work on all its pending prefixes
+abbrev pub sliced_whole : ShardOf → ShardOf
+sliced_whole shard = sliced (set_of.len shard.ribs.pending) shard
 
 -- the shards after such work on the one at a place, where one stands there
 abbrev pub sliced_found : ℕ → ℕ → Option ShardOf → List ShardOf → List ShardOf
@@ -73,6 +79,12 @@ pub record AreDirty (roster : RosterOf) (shards : List ShardOf) (slot : ℕ) (pr
 -- what a slot has at prefixes
 abbrev pub cells_of : RosterOf → List ShardOf → ℕ → List IpPrefix → List Cell
 cells_of roster shards slot prefixes = cells_at roster (ribs_in shards) slot prefixes
+
+-- the offers of a slot's dirty cells, by rising prefix
+pub record AreOffered (roster : RosterOf) (shards : List ShardOf) (slot : ℕ) (offers : List OfferFields) : Type 0 where
+  pub dirty : AreDirty roster shards slot (map (λ offer. offer.prefix) offers)
+  pub cells : map cell_of offers ≡ cells_of roster shards slot (map (λ offer. offer.prefix) offers)
+  pub sendable : AllByRecursion IsSendable (map cell_of offers)
 
 -- The least dirty cell of a slot is taken away: it is at this prefix, and clean then. All else is as before.
 pub record Takes (roster : RosterOf) (slot : ℕ) (before : List ShardOf) (p : IpPrefix) (now : List ShardOf) : Type 0 where

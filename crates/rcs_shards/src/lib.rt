@@ -5,7 +5,7 @@
 //!
 //! - Each event does to the shards what the definitions' event of its name does. A router that isn't connected changes nothing
 //!   by a `down`, an `announce` or a `withdraw`.
-//! - `work_all` and `work_least` work pending prefixes and give the UPDATEs for exactly the cells that change by it, packed. In
+//! - `work_all` and `work_least` work pending prefixes, `work_all` in one thread or in several, and give the UPDATEs for exactly the cells that change by it, packed. In
 //!   between no cell is dirty: each call sends what it changes.
 //! - What is asked is what the shard of the prefix answers, and all answers are an assignment by the law of `Assigned`.
 //! - After `NoMemory` the shards are as sound as before. `announce` and `set_view` then changed nothing; the prefixes of a work
@@ -15,7 +15,7 @@
 //! let mut shards = Shards::new(alloc, roster, view)?;
 //! shards.up(slot);
 //! shards.announce(slot, prefix, route)?;                 // the prefix is pending in its shard
-//! for messages in shards.work_all(&connected)? { .. }    // the UPDATEs of each slot of the list
+//! for messages in shards.work_all(&InTurn, &connected)? { .. }    // the UPDATEs of each slot of the list
 //! ```
 #![tactic(auto)]
 
@@ -27,9 +27,11 @@ mod least;
 mod sending;
 mod shards;
 mod work;
+mod workers;
 
 pub use shards::Shards;
 pub use work::Messages;
+pub use workers::{InThreads, InTurn, Workers};
 
 #[cfg(test)]
 mod tests;

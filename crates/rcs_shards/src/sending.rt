@@ -1,18 +1,19 @@
 //! What is sent for the dirty cells of all shards.
 
-ghost use Rattle.std.specs.Prelude.{◌≡◌, ◌≢◌, ℕ, ◌<◌, ◌≤◌, List, [], ◌∷◌, length, map, All, AllPairs, IfOk, MatchOption, true, false};
+ghost use Rattle.std.specs.Prelude.{◌≡◌, ◌≢◌, ℕ, ◌<◌, ◌≤◌, List, [], ◌∷◌, length, map, option_map, All, AllPairs, IfOk, IfSome, OnErr, MatchOption, true, false};
 ghost use Rattle.rcp_base.specs.IpPrefix.{IpPrefix};
 ghost use Rattle.rcp_model.specs.Cells.{IsSendable};
-ghost use Rattle.rcp_model.specs.Rising.{IsRising};
+ghost use Rattle.rcp_model.specs.Routes.{is_usable};
 ghost use Rattle.rcp_model.specs.Packing.{packed};
 ghost use Rattle.rcp_model.specs.Assigned.{IsLeast};
 ghost use Rattle.update_pack.specs.Shown.{cell_of};
-ghost use Rattle.rcs_shards.specs.Dirty.{cleaned, has_dirty, AreReady, AreDirty, cells_of, Takes, Empties};
+ghost use Rattle.rcs_shard.specs.Shards.{IsLeastDirty, given_at, taken};
+ghost use Rattle.rcs_shards.specs.Dirty.{cleaned, has_dirty, AreReady, AreDirty, AreOffered, cells_of, Takes, Empties};
 
 use crate::least::lesser;
 use crate::work::Messages;
 use rcp_base::{NoMemory, Prefix, Slot, shard_of};
-use rcp_model::Offer;
+use rcp_model::{Offer, Route};
 use rcs_shard::Shard;
 use roster::Roster;
 use std::alloc::Global;
@@ -36,41 +37,103 @@ pub(crate) fn send(
 {
     let mut lists = Vec::new(alloc);
     for slot in slots {
-        let changed = take_changed(alloc, roster, shards, *slot)?;
-        lists.push(updates(alloc, roster, shards, *slot, &changed)?)?;
+        lists.push(updates(alloc, roster, shards, *slot)?)?;
     }
     Ok(lists)
 }
 
-/// Takes the dirty cells of a slot away, and gives their prefixes over all shards, by rising order.
-fn take_changed(
+/// The packed UPDATEs for the dirty cells of a slot. These cells are clean then.
+fn updates(
     alloc: Global,
     roster: &Roster,
     shards: &mut Vec<Shard>,
     slot: Slot,
-) -> Result<Vec<Prefix>, NoMemory>
+) -> Result<Messages, NoMemory>
     requires ready { AreReady roster.now shards.old.items }
     requires member { slot < length roster.now.members }
-    ensures prefixes { IfOk result (λ prefixes. AreDirty roster.now shards.old.items slot prefixes.items) }
+    ensures packed { IfOk result (λ messages. (prefixes : List IpPrefix) → AreDirty roster.now shards.old.items slot prefixes
+        → map (λ m. m.items) messages.items ≡ packed (cells_of roster.now shards.old.items slot prefixes)) }
+    ensures short { IfOk result (λ messages. All (λ m. length m.items ≤ 4096) messages.items) }
     ensures after { Empties roster.now slot shards.old.items shards.new.items }
 {
-    let mut changed = Vec::new(alloc);
-    while let Some(p) = take_least(roster, shards, slot) {
-        changed.push(p)?;
-    }
-    Ok(changed)
+    let offers = take_offers(alloc, roster, shards, slot)?;
+    pack(alloc, &offers)
 }
 
-/// Takes the least dirty cell of a slot away, and gives its prefix.
-fn take_least(roster: &Roster, shards: &mut Vec<Shard>, slot: Slot) -> Option<Prefix>
+/// Takes the dirty cells of a slot away, and gives an offer for each, by rising prefix over all shards.
+fn take_offers(
+    alloc: Global,
+    roster: &Roster,
+    shards: &mut Vec<Shard>,
+    slot: Slot,
+) -> Result<Vec<Offer>, NoMemory>
     requires ready { AreReady roster.now shards.old.items }
     requires member { slot < length roster.now.members }
-    ensures { MatchOption result ((shards.new.items ≡ shards.old.items) × ((p : IpPrefix) → has_dirty roster.now shards.old.items slot p ≡ false))
-        (λ p. Takes roster.now slot shards.old.items p shards.new.items) }
+    ensures offers { IfOk result (λ offers. AreOffered roster.now shards.old.items slot offers.items) }
+    ensures after { Empties roster.now slot shards.old.items shards.new.items }
 {
-    let p = least(roster, shards, slot)?;
+    let mut offers = Vec::new(alloc);
+    while let Some(offer) = take_least(roster, shards, slot)? {
+        offers.push(offer)?;
+    }
+    Ok(offers)
+}
+
+/// Takes the least dirty cell of a slot away, and gives an offer for it.
+fn take_least(
+    roster: &Roster,
+    shards: &mut Vec<Shard>,
+    slot: Slot,
+) -> Result<Option<Offer>, NoMemory>
+    requires ready { AreReady roster.now shards.old.items }
+    requires member { slot < length roster.now.members }
+    ensures taken { IfOk result (λ offer. MatchOption offer
+        ((shards.new.items ≡ shards.old.items) × ((p : IpPrefix) → has_dirty roster.now shards.old.items slot p ≡ false))
+        (λ offer. Takes roster.now slot shards.old.items offer.prefix shards.new.items)) }
+    ensures cell { IfOk result (λ offer. IfSome offer (λ offer. (cells_of roster.now shards.old.items slot (offer.prefix ∷ []) ≡ cell_of offer ∷ []) × IsSendable (cell_of offer))) }
+    ensures err { OnErr result (shards.new.items ≡ shards.old.items) }
+{
+    let Some(p) = least(roster, shards, slot) else {
+        return Ok(None);
+    };
     let number = usize::from(shard_of(p, roster.shards()));
-    shards[number].take_offer(slot)
+    let offer = take_cell(&mut shards[number], slot)?;
+    Ok(offer)
+}
+
+/// Takes the least dirty cell of a slot in a shard away, and gives an offer for it.
+fn take_cell(shard: &mut Shard, slot: Slot) -> Result<Option<Offer>, NoMemory>
+    requires { slot < length shard.old.members }
+    ensures least { IfOk result (λ offer. IsLeastDirty shard.old slot (option_map (λ offer. offer.prefix) offer)) }
+    ensures value { IfOk result (λ offer. IfSome offer (λ offer. offer.attrs ≡ option_map (λ route. route.attrs) (given_at shard.old slot offer.prefix))) }
+    ensures sendable { IfOk result (λ offer. IfSome offer (λ offer. IsSendable (cell_of offer))) }
+    ensures after { IfOk result (λ offer. shard.new ≡ taken slot (option_map (λ offer. offer.prefix) offer) shard.old) }
+    ensures err { OnErr result (shard.new ≡ shard.old) }
+{
+    let Some((p, route)) = shard.dirty_cell(slot) else {
+        return Ok(None);
+    };
+    let offer = offer(p, route)?;
+    shard.take_offer(slot);
+    Ok(Some(offer))
+}
+
+/// The offer of a route, or of nothing.
+fn offer(p: Prefix, route: Option<&Route>) -> Result<Offer, NoMemory>
+    requires { IfSome route (λ route. is_usable route.now ≡ true) }
+    ensures prefix { IfOk result (λ offer. offer.prefix ≡ p) }
+    ensures attrs { IfOk result (λ offer. offer.attrs ≡ option_map (λ route. route.now.attrs) route.entry) }
+    ensures sendable { IfOk result (λ offer. IsSendable (cell_of offer)) }
+{
+    // A prefix and a route are known to be in form once they are read.
+    prove!(p.len() <= 32);
+    match route {
+        Some(route) => {
+            prove!(route.octets().len() <= 4068);
+            Offer::announcing(0, p, route)
+        }
+        None => Ok(Offer::withdrawing(0, p)),
+    }
 }
 
 /// The prefix of the least dirty cell of a slot.
@@ -84,44 +147,4 @@ fn least(roster: &Roster, shards: &[Shard], slot: Slot) -> Option<Prefix>
         found = lesser(found, shard.least_dirty(slot));
     }
     found
-}
-
-/// The packed UPDATEs for the cells of a slot at some prefixes.
-fn updates(
-    alloc: Global,
-    roster: &Roster,
-    shards: &[Shard],
-    slot: Slot,
-    prefixes: &[Prefix],
-) -> Result<Messages, NoMemory>
-    requires ready { AreReady roster.now shards.now }
-    requires member { slot < length roster.now.members }
-    requires rising { IsRising prefixes.now }
-    ensures packed { IfOk result (λ messages. map (λ m. m.items) messages.items ≡ packed (cells_of roster.now shards.now slot prefixes.now)) }
-    ensures short { IfOk result (λ messages. All (λ m. length m.items ≤ 4096) messages.items) }
-{
-    let mut offers = Vec::with_capacity(alloc, prefixes.len())?;
-    for p in prefixes {
-        offers.push(offer(roster, shards, slot, *p)?)?;
-    }
-    pack(alloc, &offers)
-}
-
-/// What a slot is given at a prefix, as an offer.
-fn offer(roster: &Roster, shards: &[Shard], slot: Slot, p: Prefix) -> Result<Offer, NoMemory>
-    requires ready { AreReady roster.now shards.now }
-    requires member { slot < length roster.now.members }
-    ensures cell { IfOk result (λ offer. cells_of roster.now shards.now slot (p ∷ []) ≡ cell_of offer ∷ []) }
-    ensures sendable { IfOk result (λ offer. IsSendable (cell_of offer)) }
-{
-    // A prefix and a route are known to be in form once they are read.
-    prove!(p.len() <= 32);
-    let number = usize::from(shard_of(p, roster.shards()));
-    match shards[number].table(slot, p) {
-        Some(route) => {
-            prove!(route.octets().len() <= 4068);
-            Offer::announcing(0, p, route)
-        }
-        None => Ok(Offer::withdrawing(0, p)),
-    }
 }

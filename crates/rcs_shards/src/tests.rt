@@ -4,7 +4,7 @@ ghost use Rattle.std.specs.Prelude.{◌≡◌, ◌≤◌, ◌<◌, length, nat_l
 ghost use Rattle.rcp_model.specs.Graphs.{AreMembers};
 ghost use Rattle.rcp_model.specs.Telling.{IsRouteOf};
 
-use crate::{Messages, Shards};
+use crate::{InThreads, InTurn, Messages, Shards};
 use cost_rows::{Graph, View};
 use rcp_base::{Addr, Member, NoMemory, Prefix, RouterId, Slot};
 use rcp_model::{Edge, Octets, Route};
@@ -12,6 +12,7 @@ use roster::{Roster, read};
 use std::alloc::Global;
 use std::sync::Arc;
 use std::test::Fail;
+use std::thread::Threads;
 
 /// Routers A, B and C in two shards: the prefixes of 24 bits are in the shard of their third octet's last bit.
 const ROSTER: &[u8] =
@@ -168,7 +169,20 @@ fn drain_to(shards: &mut Shards, slot: u16) -> Result<Messages, Fail> {
     if !is_member(shards, slot) {
         return Err(Fail::from("a member"));
     }
-    let mut lists = shards.work_all(&[Slot(slot)])?;
+    let mut lists = shards.work_all(&InTurn, &[Slot(slot)])?;
+    Ok(lists.pop().ok_or("a list")?)
+}
+
+/// The same, by threads.
+fn drain_by_threads<R: Threads + Sync>(
+    rt: &R,
+    shards: &mut Shards,
+    slot: u16,
+) -> Result<Messages, Fail> {
+    if !is_member(shards, slot) {
+        return Err(Fail::from("a member"));
+    }
+    let mut lists = shards.work_all(&InThreads { threads: rt }, &[Slot(slot)])?;
     Ok(lists.pop().ok_or("a list")?)
 }
 
@@ -209,6 +223,14 @@ fn cells_of_both_shards_are_sent_by_prefix(rt: HostRuntime) -> Result<(), Fail> 
     let alloc = rt.alloc();
     let mut shards = announced(alloc)?;
     assert_eq!(rt; one(&drain_to(&mut shards, B)?), ANNOUNCED);
+    Ok(())
+}
+
+#[test]
+fn threads_send_what_one_thread_sends(rt: HostRuntime) -> Result<(), Fail> {
+    let mut shards = announced(rt.alloc())?;
+    assert_eq!(rt; one(&drain_by_threads(&rt, &mut shards, B)?), ANNOUNCED);
+    assert_eq!(rt; shards.pending(), 0);
     Ok(())
 }
 

@@ -74,6 +74,14 @@ end-answers roster h new a unspent open_ unspent' is does = record {
   does = does ∙ sym (ap (λ (q : Answer). q.does) (answer-end roster h.state open_));
 }
 
+-- actions that do the same
+
+pub runs-as : (course : Course) (old new : Held) (before after counted : Actions) → doing_of counted ≡ doing_of after → RunsOn course old new before after → RunsOn course old new before counted
+runs-as course old new before after counted same runs = record { state = runs.state; does = same ∙ runs.does }
+
+pub answers-as : (r : Answer) (old new : Held) (before after counted : Actions) → doing_of counted ≡ doing_of after → AnswersOn r old new before after → AnswersOn r old new before counted
+answers-as r old new before after counted same on = record { state = on.state; does = same ∙ on.does }
+
 -- ---- the answer to a claim
 
 -- a course that was run is what was answered

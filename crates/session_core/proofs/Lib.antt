@@ -4,3 +4,4 @@ pub mod StepLemmas
 pub mod RuleLemmas
 pub mod RunLemmas
 pub mod AnswerLemmas
+pub mod CountLemmas

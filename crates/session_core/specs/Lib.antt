@@ -5,3 +5,4 @@ pub mod Held
 pub mod Updates
 pub mod Timers
 pub mod Hearing
+pub mod Counts

@@ -62,6 +62,8 @@ pub struct Actions {
     pub claim: Option<Slot>,
     /// The end, where this call closed the session.
     pub closed: Option<Closed>,
+    /// How many messages with a faultless header were read whole and handled, one with a faulty body among them.
+    pub handled: u64,
     ghost short: { All (λ message. length message.items ≤ 4096) send.items },
 }
 
@@ -71,13 +73,15 @@ impl Actions {
 
     /// Nothing is done.
     pub(crate) fn none(alloc: Global) -> Actions
-        ensures { doing_of result ≡ nothing }
+        ensures does { doing_of result ≡ nothing }
+        ensures handled { result.handled ≡ 0 }
     {
         Actions {
             send: Vec::new(alloc),
             events: Vec::new(alloc),
             claim: None,
             closed: None,
+            handled: 0,
         }
     }
 }

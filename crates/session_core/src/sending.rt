@@ -9,16 +9,15 @@ ghost use Rattle.session_core.specs.Shown.{doing_of, reason_of};
 
 use crate::actions::{Actions, Closed, Why};
 use bgp_fault::Fault;
-use bgp_msg::{MOST_OCTETS, write_keepalive, write_notification};
+use bgp_msg::{keepalive_message, notification_message};
 use rcp_base::NoMemory;
 use std::alloc::Global;
 
 /// Sends a message besides.
-pub fn send(alloc: Global, actions: &mut Actions, message: &[u8]) -> Result<(), NoMemory>
-    requires { length message.now ≤ 4096 }
-    ensures { OnOk result (doing_of actions.new ≡ then_also (doing_of actions.old) (sending message.now)) }
+pub fn send(actions: &mut Actions, message: Vec<u8>) -> Result<(), NoMemory>
+    requires { length message.items ≤ 4096 }
+    ensures { OnOk result (doing_of actions.new ≡ then_also (doing_of actions.old) (sending message.items)) }
 {
-    let message = Vec::from_slice(alloc, message)?;
     actions.send.push(message)?;
     Ok(())
 }
@@ -27,9 +26,7 @@ pub fn send(alloc: Global, actions: &mut Actions, message: &[u8]) -> Result<(), 
 pub fn send_keepalive(alloc: Global, actions: &mut Actions) -> Result<(), NoMemory>
     ensures { OnOk result (doing_of actions.new ≡ then_also (doing_of actions.old) (sending keepalive)) }
 {
-    let mut message = [0; MOST_OCTETS];
-    let count = write_keepalive(&mut message);
-    send(alloc, actions, &message[..count])
+    send(actions, keepalive_message(alloc)?)
 }
 
 /// Tells a fault in a NOTIFICATION besides, and ends the session by it (RFC 4271 section 6). A span of the fault names
@@ -46,9 +43,7 @@ pub fn close_by(
     ensures { OnOk result (doing_of actions.new
         ≡ then_also (doing_of actions.old) (closing (reason_of why) (fault_in octets.now fault.now))) }
 {
-    let mut message = [0; MOST_OCTETS];
-    let count = write_notification(fault, octets, &mut message);
-    send(alloc, actions, &message[..count])?;
+    send(actions, notification_message(alloc, fault, octets)?)?;
     actions.closed = Some(Closed {
         why,
         code: fault.code,

@@ -2,9 +2,10 @@
 
 ghost use Rattle.std.specs.Prelude.{◌≡◌, ◌<◌, true, false, [], length, IfOk, OnOk, OnErr, if◌then◌else◌, ◌≢◌};
 ghost use Rattle.rcp_base.specs.Roster.{RosterOf};
-ghost use Rattle.rcp_model.specs.Sessions.{Octets, Seat, Moment, End, answer, begun, begun_established, course_of, seated, seat_taken, claim_answered, is_closed, Closed as ClosedPhase, seat_of, slot_in};
+ghost use Rattle.rcp_model.specs.Sessions.{Octets, Seat, Moment, End, answer, begun, begun_established, course_of, seated, seat_taken, claim_answered, is_closed, OpenConfirm, Closed as ClosedPhase, seat_of, slot_in};
 ghost use Rattle.session_core.specs.Shown.{doing_of, phase_of, terms_of};
 ghost use Rattle.session_core.specs.Held.{Answers, AnswersOn, IsEnded, RunsOn};
+ghost use Rattle.session_core.specs.Counts.{handled_in, handled_at, confirmed};
 
 use crate::actions::{Actions, Closed, Why};
 use crate::events::tell_up;
@@ -13,7 +14,7 @@ use crate::sending::{close_by, send, send_keepalive};
 use crate::state::{Claim, Negotiated, Peering, State};
 use crate::timers::tick;
 use bgp_fault::{CEASE, Data, Fault, UNSPECIFIC};
-use bgp_msg::{MOST_OCTETS, OpenBody, write_open};
+use bgp_msg::{OpenBody, open_message};
 use rcp_base::{NoMemory, Slot};
 use roster::Roster;
 use std::alloc::Global;
@@ -49,10 +50,8 @@ impl Session {
             hold: roster.hold(),
             id: roster.id(),
         };
-        let mut message = [0; MOST_OCTETS];
-        let count = write_open(&open, &mut message);
         let mut actions = Actions::none(alloc);
-        send(alloc, &mut actions, &message[..count])?;
+        send(&mut actions, open_message(alloc, &open)?)?;
         let session = Session::begun(alloc, State::OpenSent { since: now }, now);
         Ok((session, actions))
     }
@@ -126,6 +125,7 @@ impl Session {
     /// isn't spent.
     pub fn bytes(&mut self, roster: &Roster, piece: &[u8], now: u64) -> Result<Actions, NoMemory>
         ensures answered { IfOk result (λ actions. Answers (answer roster.now (Octets piece.now now) self.old.state) self.old self.new actions) }
+        ensures handled { IfOk result (λ actions. actions.handled ≡ handled_at roster.now (Octets piece.now now) self.old.state) }
         ensures spent { OnErr result (self.new.spent ≡ true) }
         ensures want { OnErr result (self.old.spent ≡ false → is_closed self.old.state.phase ≡ false) }
     {
@@ -139,7 +139,8 @@ impl Session {
         self.spent = true;
         self.latest = self.latest.max(now);
         self.kept.extend_from_slice(piece)?;
-        self.read_kept(roster, &mut actions)?;
+        let handled = self.read_kept(roster, &mut actions)?;
+        actions.handled = handled;
         self.spent = false;
         Ok(actions)
     }
@@ -152,6 +153,7 @@ impl Session {
     /// isn't spent.
     pub fn seated(&mut self, roster: &Roster, free: bool, now: u64) -> Result<Actions, NoMemory>
         ensures answered { IfOk result (λ actions. Answers (answer roster.now (Seat free now) self.old.state) self.old self.new actions) }
+        ensures handled { IfOk result (λ actions. actions.handled ≡ handled_at roster.now (Seat free now) self.old.state) }
         ensures spent { OnErr result (self.new.spent ≡ true) }
         ensures want { OnErr result (self.old.spent ≡ false → is_closed self.old.state.phase ≡ false) }
     {
@@ -164,7 +166,8 @@ impl Session {
         }
         self.spent = true;
         self.latest = self.latest.max(now);
-        self.answer_claim(roster, free, &mut actions)?;
+        let handled = self.answer_claim(roster, free, &mut actions)?;
+        actions.handled = handled;
         self.spent = false;
         Ok(actions)
     }
@@ -229,9 +232,10 @@ impl Session {
         }
     }
 
-    /// Reads the octets that are kept.
-    fn read_kept(&mut self, roster: &Roster, actions: &mut Actions) -> Result<(), NoMemory>
+    /// Reads the octets that are kept, and answers how many messages of them were handled.
+    fn read_kept(&mut self, roster: &Roster, actions: &mut Actions) -> Result<u64, NoMemory>
         ensures runs { OnOk result (RunsOn (course_of roster.now self.old.state.latest self.old.state.kept self.old.state.phase) self.old self.new actions.old actions.new) }
+        ensures handled { IfOk result (λ count. count ≡ handled_in roster.now self.old.state.latest self.old.state.kept self.old.state.phase) }
         ensures spent { self.new.spent ≡ self.old.spent }
     {
         let read = read_on(
@@ -245,17 +249,18 @@ impl Session {
         self.state = read.state;
         self.kept.rotate_left(read.taken);
         self.kept.truncate(self.kept.len() - read.taken);
-        Ok(())
+        Ok(read.handled)
     }
 
-    /// The claim that waits is answered, if one does.
+    /// The claim that waits is answered, if one does. Answers how many messages were handled.
     fn answer_claim(
         &mut self,
         roster: &Roster,
         free: bool,
         actions: &mut Actions,
-    ) -> Result<(), NoMemory>
+    ) -> Result<u64, NoMemory>
         requires { is_closed self.old.state.phase ≡ false }
+        ensures handled { IfOk result (λ count. count ≡ handled_in roster.now self.old.state.latest self.old.state.kept (confirmed free self.old.state.latest self.old.state.phase)) }
         ensures answered { OnOk result (AnswersOn (claim_answered roster.now free self.old.state.latest self.old.state.kept self.old.state.phase) self.old self.new actions.old actions.new) }
         ensures spent { self.new.spent ≡ self.old.spent }
     {
@@ -264,20 +269,23 @@ impl Session {
                 if free {
                     self.take_seat(roster, claim, actions)
                 } else {
-                    self.give_up(actions)
+                    self.give_up(actions)?;
+                    Ok(0)
                 }
             }
-            _ => Ok(()),
+            _ => Ok(0),
         }
     }
 
-    /// The seat is the session's.
+    /// The seat is the session's. Answers how many messages were handled.
     fn take_seat(
         &mut self,
         roster: &Roster,
         claim: Claim,
         actions: &mut Actions,
-    ) -> Result<(), NoMemory>
+    ) -> Result<u64, NoMemory>
+        ensures handled { IfOk result (λ count. count ≡ handled_in roster.now self.old.state.latest self.old.state.kept
+            (OpenConfirm (record { slot = claim.slot; negotiated = terms_of claim.negotiated; read = self.old.state.latest; sent = self.old.state.latest }))) }
         ensures runs { OnOk result (RunsOn (seated roster.now self.old.state.latest self.old.state.kept
             (record { slot = claim.slot; negotiated = terms_of claim.negotiated; read = self.old.state.latest; sent = self.old.state.latest })) self.old self.new actions.old actions.new) }
         ensures spent { self.new.spent ≡ self.old.spent }

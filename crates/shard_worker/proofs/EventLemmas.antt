@@ -1,18 +1,16 @@
 -- What each event does to what a shard answers of its connected slots, its cells and the dirty ones.
 use Rattle.std.proofs.Common.{◌≡◌, ℕ, Bool, true, false, cond, not, ◌&&◌, ◌||◌, eqb, List, [], ◌∷◌, Option, Some, None, refl, sym, ap, ◌∙◌}
 use Rattle.std.specs.FinSet as set_of
-use Rattle.std.specs.Ordering.{nat_cmp, eq_by_cmp}
 use Rattle.std.specs.Cmp.{unsigned_tied}
 use Rattle.std.proofs.lemmas.Cmp.{nat_cmp_total}
 use Rattle.std.proofs.lemmas.Bool.{false≢true}
 use Rattle.rcp_base.specs.IpPrefix.{IpPrefix}
 use Rattle.rcp_base.specs.declared.names.Edge.{Edge}
 use Rattle.rcp_model.specs.Routes.{RouteFields}
-use Rattle.rcp_model.specs.ServerRibs.{Up, Down, Change, Links, Work, Ribs, same_values, same_route, at_prefix, is_up, with_value, route_reader, ribs_after, ribs_after_all}
+use Rattle.rcp_model.specs.ServerRibs.{Up, Down, Change, Links, Work, same_values, same_route, at_prefix, is_up, with_value, route_reader, ribs_after, ribs_after_all}
 use Rattle.rib_laws.proofs.RibLookups.{get-without_slot}
 use Rattle.rib_laws.proofs.PendingLemmas.{route_exact}
 use Rattle.platform_laws.specs.Dirty.{dirty_over}
-use Rattle.platform_laws.specs.Work.{works}
 use Rattle.platform_laws.proofs.DirtyCells.{dirty-all}
 use Rattle.rcs_shard.specs.Shards.{ShardOf, is_connected, is_dirty, given_at, acted}
 use Rattle.shard_worker.proofs.DirtyLemmas.{contains-retained}

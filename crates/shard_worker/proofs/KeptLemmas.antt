@@ -1,17 +1,17 @@
 -- What each worker keeps stays so with every message, with work and with offers.
-use Rattle.std.proofs.Common.{◌≡◌, ℕ, zero, suc, ◌+◌, ◌<◌, ◌≤◌, Bool, true, false, cond, not, ◌&&◌, ◌||◌, ◌⊎◌, eqb, ltb, List, [], ◌∷◌, ◌++◌, map, length, get_or, take, drop, Option, Some, None, refl, sym, ap, subst, ◌∙◌, inl, inr, arith}
+use Rattle.std.proofs.Common.{◌≡◌, ℕ, zero, suc, ◌<◌, ◌≤◌, Bool, true, false, cond, not, ◌&&◌, ◌||◌, ◌⊎◌, eqb, ltb, List, [], ◌∷◌, map, length, get_or, take, drop, Option, Some, None, refl, sym, ap, subst, ◌∙◌, inl, inr, arith}
 use Rattle.std.specs.Prelude.{slice_get, All}
 use Rattle.mailbox.specs.declared.ends.Sender.{Sender}
 use Rattle.mailbox.specs.Boxes.{sent}
 use Rattle.std.specs.List.{AllByRecursion}
 use Rattle.std.proofs.Math.ListN.{set}
-use Rattle.std.proofs.lemmas.Bool.{and_parts, or_cases, eqb-true, eq-eqb, ne_eqb, false≢true}
+use Rattle.std.proofs.lemmas.Bool.{and_parts, or_cases, eqb-true, eq-eqb, false≢true}
 use Rattle.std.proofs.lemmas.Bool.Decides.{nat_tests}
 use Rattle.rcp_base.specs.IpPrefix.{IpPrefix}
 use Rattle.rcp_base.specs.Maps.{same_prefix, is_among}
 use Rattle.rcp_base.specs.declared.names.Edge.{Edge}
 use Rattle.rcp_model.specs.Routes.{RouteFields, OfferFields}
-use Rattle.rcp_model.specs.ServerRibs.{RibEvent, Up, Down, Change, Links, Work, AreSettled, route_reader, ribs_after}
+use Rattle.rcp_model.specs.ServerRibs.{RibEvent, Up, Down, Change, Links, Work, AreSettled, route_reader}
 use Rattle.rcp_model.specs.declared.rcs_mail.ShardMail.{ShardMail}
 use Rattle.rcp_model.specs.declared.rcs_mail.ShardMail.TheVariants as mail
 use Rattle.rib_laws.proofs.SettledLemmas.{settled_after}
@@ -24,9 +24,9 @@ use Rattle.std.specs.FinSet as set_of
 use Rattle.std.specs.Ordering.{nat_cmp}
 use Rattle.rcs_shard.specs.Shards.{ShardOf, new_shard, is_connected, is_dirty, given_at, acted}
 use Rattle.shard_worker.specs.Runs.{Letter, RunOf, generation_of, started, is_own, is_in_place, event_of, generations_after, after_message, after_messages, after_work, worked_off, pending_of}
-use Rattle.shard_worker.specs.Offers.{dirty_of, offer_at, replayed_from, replayed}
+use Rattle.shard_worker.specs.Offers.{dirty_of, offer_at, replayed}
 use Rattle.shard_worker.specs.Ends.{PortOf, port_of}
-use Rattle.shard_worker.specs.Workers.{IsIdle, IsCurrent, ArePast, IsWorker}
+use Rattle.shard_worker.specs.Workers.{IsIdle, IsWorker}
 use Rattle.shard_worker.specs.Turns.{IsOfferedAt, AreOffered}
 use Rattle.shard_worker.proofs.ReplayLemmas.{replayed_after, nothing_of, offers_give, all_append, all_weaker, all_of_offers}
 use Rattle.shard_worker.proofs.EventLemmas.{up_connected, up_given, up_dirty, down_connected, down_given, down_dirty, change_connected, change_given, links_connected, links_given, work_connected, work_clean}

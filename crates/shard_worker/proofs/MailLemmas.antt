@@ -1,11 +1,11 @@
 -- What is taken from a mailbox, message by message.
-use Rattle.std.proofs.Common.{◌≡◌, ℕ, suc, ◌+◌, ◌≤◌, Bool, true, false, List, [], ◌∷◌, ◌++◌, length, get_or, drop, refl, sym, ap, ◌∙◌, append-nil, arith}
+use Rattle.std.proofs.Common.{◌≡◌, ℕ, suc, ◌≤◌, true, false, List, [], ◌∷◌, ◌++◌, length, drop, refl, sym, ap, ◌∙◌, append-nil, arith}
 use Rattle.std.specs.Prelude.{Contains}
 use Rattle.std.proofs.Math.Seq.{drop-append_seam}
 use Rattle.mailbox.specs.Boxes.{counted}
 use Rattle.shard_worker.specs.Runs.{Letter, RunOf, after_message, after_messages}
 use Rattle.shard_worker.specs.Ends.{InboxOf}
-use Rattle.shard_worker.specs.Turns.{taken_since, HasTaken, HasLost, IsAnnounce, HasAnnounce}
+use Rattle.shard_worker.specs.Turns.{taken_since, HasTaken, IsAnnounce, HasAnnounce}
 use Rattle.shard_worker.proofs.StartLemmas.{messages_append}
 
 -- the mailbox after these messages more

@@ -1,12 +1,12 @@
 -- Offers that are put to a slot, one after another.
-use Rattle.std.proofs.Common.{◌≡◌, ℕ, zero, suc, ◌+◌, ◌-◌, ◌^◌, ◌≤◌, min, true, List, [], ◌∷◌, ◌++◌, map, length, take, drop, Some, None, refl, sym, ap, subst, ◌∙◌, append-nil, arith}
+use Rattle.std.proofs.Common.{◌≡◌, ℕ, zero, suc, ◌+◌, ◌≤◌, true, List, [], ◌∷◌, ◌++◌, map, length, take, drop, Some, None, refl, sym, ap, subst, ◌∙◌, append-nil, arith}
 use Rattle.rcp_base.specs.IpPrefix.{IpPrefix}
 use Rattle.rcp_model.specs.Routes.{OfferFields}
 use Rattle.rcs_shard.specs.Shards.{ShardOf, is_dirty, IsLeastDirty, taken}
 use Rattle.shard_worker.specs.Offers.{dirty_of, offer_at}
 use Rattle.shard_worker.specs.Ends.{PortOf}
 use Rattle.shard_worker.specs.Turns.{HasPut}
-use Rattle.shard_worker.proofs.DirtyLemmas.{dirty_first, others_stay, none_dirty}
+use Rattle.shard_worker.proofs.DirtyLemmas.{dirty_first, others_stay}
 
 -- ---- lists
 

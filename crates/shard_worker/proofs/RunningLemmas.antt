@@ -1,7 +1,7 @@
 -- What a message in place does to a running shard with a place for each slot's generation.
-use Rattle.std.proofs.Common.{◌≡◌, ℕ, zero, suc, ◌<◌, ◌≤◌, Bool, true, false, cond, not, ◌&&◌, eqb, ltb, List, [], ◌∷◌, map, length, take, get_or, refl, sym, ap, subst, ◌∙◌, arith}
+use Rattle.std.proofs.Common.{◌≡◌, ℕ, ◌<◌, ◌≤◌, true, false, cond, not, ◌&&◌, eqb, ltb, List, [], ◌∷◌, map, length, take, get_or, refl, sym, ap, subst, ◌∙◌, arith}
 use Rattle.std.specs.List.{list_all}
-use Rattle.std.specs.Cmp.Lexicographic.{pointwise, pointwise_decides}
+use Rattle.std.specs.Cmp.Lexicographic.{pointwise_decides}
 use Rattle.std.proofs.Math.ListN.{set}
 use Rattle.std.proofs.Math.Seq.{take-set-lt}
 use Rattle.std.proofs.lemmas.List.{get_or-take}
@@ -10,7 +10,7 @@ use Rattle.rcp_base.specs.declared.names.Member.{Member}
 use Rattle.rcp_model.specs.ServerRibs.{Up}
 use Rattle.rcp_model.specs.declared.rcs_mail.ShardMail.TheVariants as mail
 use Rattle.rcs_shard.specs.Shards.{ShardOf, is_connected, acted}
-use Rattle.shard_worker.specs.Runs.{RunOf, run_in, generation_of, is_own, same_member, same_members, after_message}
+use Rattle.shard_worker.specs.Runs.{RunOf, run_in, is_own, same_member, same_members, after_message}
 
 -- ---- members
 

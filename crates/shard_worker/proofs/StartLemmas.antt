@@ -1,20 +1,18 @@
 -- What a shard has of connected slots, announcements and link state depends on the messages alone.
-use Rattle.std.proofs.Common.{◌≡◌, ℕ, Bool, true, false, cond, not, ◌&&◌, eqb, ltb, List, [], ◌∷◌, ◌++◌, map, length, get_or, Option, Some, None, refl, sym, ap, subst, ◌∙◌}
+use Rattle.std.proofs.Common.{◌≡◌, ℕ, Bool, true, false, cond, not, ◌&&◌, eqb, ltb, List, [], ◌∷◌, ◌++◌, length, get_or, Option, Some, None, refl, sym, ap, ◌∙◌}
 use Rattle.std.specs.FinSet as set_of
 use Rattle.std.proofs.Math.ListN.{set}
 use Rattle.std.proofs.lemmas.Bool.{false≢true}
 use Rattle.std.specs.Ordering.{nat_cmp}
 use Rattle.rcp_base.specs.IpPrefix.{IpPrefix, shard_of_prefix}
-use Rattle.rcp_base.specs.declared.names.Member.{Member}
-use Rattle.rcp_base.specs.declared.names.Edge.{Edge}
 use Rattle.rcp_model.specs.Routes.{RouteFields}
-use Rattle.rcp_model.specs.ServerRibs.{Rib, Ribs, RibEvent, Up, Down, Change, Links, Work, at_prefix, is_up, same_values, same_route, with_value, without_slot, route_reader, ribs_after}
+use Rattle.rcp_model.specs.ServerRibs.{Change, Work, at_prefix, is_up, same_values, same_route, with_value, without_slot, ribs_after}
 use Rattle.rcp_model.specs.declared.rcs_mail.ShardMail.{ShardMail}
 use Rattle.rcp_model.specs.declared.rcs_mail.ShardMail.TheVariants as mail
 use Rattle.cost_rows.specs.Views.{ViewOf}
-use Rattle.rcs_shard.specs.Shards.{ShardOf, acted}
-use Rattle.shard_worker.specs.Runs.{Letter, RunOf, generation_of, started, is_own, is_in_place, is_owned, same_members, event_of, generations_after, after_message, after_messages, after_work, worked_off}
-use Rattle.shard_worker.specs.Workers.{WorkerOf, AreAlike, IsRunOf}
+use Rattle.rcs_shard.specs.Shards.{acted}
+use Rattle.shard_worker.specs.Runs.{Letter, RunOf, is_in_place, same_members, event_of, generations_after, after_message, after_messages, after_work}
+use Rattle.shard_worker.specs.Workers.{AreAlike}
 
 -- ---- runs alike but for what is given, pending and dirty
 

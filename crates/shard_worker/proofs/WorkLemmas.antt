@@ -1,12 +1,12 @@
 -- Work on the least pending prefixes, one after another.
-use Rattle.std.proofs.Common.{◌≡◌, ℕ, zero, suc, ◌+◌, List, [], ◌∷◌, length, take, Some, None, refl, sym, ap, ◌∙◌}
+use Rattle.std.proofs.Common.{◌≡◌, ℕ, zero, suc, List, [], ◌∷◌, take, Some, None, refl, sym, ap, ◌∙◌}
 use Rattle.std.specs.FinSet as set_of
 use Rattle.rcp_base.specs.IpPrefix.{IpPrefix}
 use Rattle.rcp_model.specs.ServerRibs.{Work, ribs_after}
 use Rattle.platform_laws.specs.Asked.{rising_of}
 use Rattle.platform_laws.proofs.PendingLists.{least-first, none-least}
 use Rattle.rcs_shard.specs.Shards.{ShardOf, acted, IsLeastPending}
-use Rattle.shard_worker.specs.Runs.{RunOf, after_work, pending_of, worked_off}
+use Rattle.shard_worker.specs.Runs.{after_work, pending_of}
 
 module _ (shard : ShardOf) where
   rest_of : (p : IpPrefix) → pending_of (acted (Work p) shard) ≡ rising_of (set_of.remove shard.ribs.pending p)

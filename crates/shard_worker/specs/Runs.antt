@@ -1,5 +1,5 @@
 -- What the messages of the sessions and of the viewer do to a running shard, and what its work does.
-use Rattle.std.specs.Prelude.{◌≡◌, ℕ, Bool, true, false, not, ◌&&◌, ◌==◌, nat_lt, List, [], ◌∷◌, map, take, length, slice_index, slice_set, Some, None, if◌then◌else◌, refl}
+use Rattle.std.specs.Prelude.{ℕ, Bool, not, ◌&&◌, ◌==◌, nat_lt, List, [], ◌∷◌, map, take, length, slice_index, slice_set, Some, None, if◌then◌else◌, refl}
 use Rattle.std.specs.Coded.{Coded, code_by, coded×, coded_ℕ, coded_list}
 use Rattle.std.specs.Cmp.Lexicographic.{pointwise}
 use Rattle.rcp_base.specs.IpPrefix.{IpPrefix, shard_of_prefix}

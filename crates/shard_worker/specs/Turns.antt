@@ -1,9 +1,7 @@
 -- What a turn of a worker does.
-use Rattle.std.specs.Prelude.{◌≡◌, ◌⊎◌, ℕ, ◌+◌, ◌-◌, ◌^◌, ◌≤◌, min, Bool, true, false, List, [], ◌∷◌, ◌++◌, map, take, drop, length, sum_by, slice_get, Contains, Some, IsSome, if◌then◌else◌}
+use Rattle.std.specs.Prelude.{◌≡◌, ◌⊎◌, ℕ, ◌+◌, ◌≤◌, Bool, true, false, List, [], ◌∷◌, ◌++◌, map, take, drop, length, sum_by, slice_get, Contains, Some, IsSome, if◌then◌else◌}
 use Rattle.rcp_base.specs.IpPrefix.{IpPrefix}
-use Rattle.rcp_model.specs.declared.rcs_mail.ShardMail.{ShardMail}
 use Rattle.rcp_model.specs.declared.rcs_mail.ShardMail.TheVariants as mail
-use Rattle.cost_rows.specs.Views.{ViewOf}
 use Rattle.mailbox.specs.Boxes.{counted}
 use Rattle.rcs_shard.specs.Shards.{ShardOf, is_connected, is_dirty, given_at}
 use Rattle.shard_worker.specs.Runs.{Letter, RunOf, generation_of, after_messages, worked_off}

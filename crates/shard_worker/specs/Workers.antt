@@ -1,12 +1,11 @@
 -- What contracts see of the worker of a shard, and what each worker keeps.
-use Rattle.std.specs.Prelude.{◌≡◌, ℕ, ◌<◌, ◌≤◌, Bool, true, false, List, [], map, length, slice_get, Some, None}
+use Rattle.std.specs.Prelude.{◌≡◌, ℕ, ◌<◌, ◌≤◌, Bool, true, false, List, length, slice_get, Some, None}
 use Rattle.std.specs.List.{AllByRecursion}
 use Rattle.rcp_base.specs.IpPrefix.{IpPrefix}
-use Rattle.rcp_model.specs.Routes.{OfferFields}
 use Rattle.rcp_model.specs.ServerRibs.{route_reader, AreSettled}
 use Rattle.platform_laws.specs.Asked.{octets_of}
 use Rattle.rcs_shard.specs.Shards.{ShardOf, is_connected, is_dirty, given_at, announced_at}
-use Rattle.shard_worker.specs.Runs.{Letter, RunOf, generation_of, started, after_messages}
+use Rattle.shard_worker.specs.Runs.{RunOf, generation_of, started, after_messages}
 use Rattle.shard_worker.specs.Offers.{replayed}
 use Rattle.shard_worker.specs.Ends.{InboxOf, PortOf}
 

@@ -27,6 +27,9 @@ length-more ps p =
 prefix-short : (p : IpPrefix) → length (prefix_octets p) ≤ 5
 prefix-short p = omega (arith, length-take (octets_for p.len) (to_be_bytes w32 p.addr))
 
+pub length-one : (p : IpPrefix) → length (flat_map prefix_octets (p ∷ [])) ≤ 5
+length-one p = omega (arith, length-more [] p, prefix-short p)
+
 -- what is known of the first i prefixes: they are the front of one piece
 pub record IsFront (v : Option (List ℕ)) (ps : List IpPrefix) (i octets : ℕ) : Type 0 where
   pub counted : octets ≡ length (flat_map prefix_octets (take i ps))

@@ -2,13 +2,12 @@
 
 ghost use Rattle.std.specs.Prelude.{◌≡◌, ◌+◌, ◌≤◌, ◌<◌, ◌++◌, ◌∷◌, [], List, map, length, take, drop, flat_map, IfOk, OnOk};
 ghost use Rattle.rcp_base.specs.IpPrefix.{prefix_octets};
-ghost use Rattle.rcp_model.specs.Updates.{update_octets};
 ghost use Rattle.rcp_model.specs.Packing.{update_of, fill, group_updates};
 ghost use Rattle.update_pack.specs.Values.{value_in, octet_count};
 ghost use Rattle.update_pack.specs.Shown.{group_in, groups_in};
 
 use crate::group::Group;
-use bgp_msg::{MOST_OCTETS, write_update};
+use bgp_msg::{MOST_OCTETS, update_message};
 use rcp_base::{NoMemory, Prefix};
 use std::alloc::Global;
 
@@ -19,10 +18,9 @@ const LEAST_UPDATE: usize = 23;
 pub(crate) fn write_groups(alloc: Global, groups: &[Group<'_>]) -> Result<Vec<Vec<u8>>, NoMemory>
     ensures { IfOk result (λ messages. map (λ m. m.items) messages.items ≡ flat_map group_updates (groups_in groups.now)) }
 {
-    let mut buffer = [0; MOST_OCTETS];
     let mut messages = Vec::new(alloc);
     for group in groups {
-        write_group(alloc, group, &mut buffer, &mut messages)?;
+        write_group(alloc, group, &mut messages)?;
     }
     Ok(messages)
 }
@@ -31,7 +29,6 @@ pub(crate) fn write_groups(alloc: Global, groups: &[Group<'_>]) -> Result<Vec<Ve
 fn write_group(
     alloc: Global,
     group: &Group<'_>,
-    buffer: &mut [u8; 4096],
     messages: &mut Vec<Vec<u8>>,
 ) -> Result<(), NoMemory>
     ensures { OnOk result (map (λ m. m.items) messages.new.items ≡ map (λ m. m.items) messages.old.items ++ group_updates (group_in group.now)) }
@@ -40,7 +37,7 @@ fn write_group(
     let mut rest = group.prefixes.as_slice();
     while !rest.is_empty() {
         let (piece, more) = rest.split_at(front(attrs, rest));
-        messages.push(write_piece(alloc, attrs, piece, buffer)?)?;
+        messages.push(write_piece(alloc, attrs, piece)?)?;
         rest = more;
     }
     Ok(())
@@ -84,35 +81,17 @@ fn prefix_len(prefix: &Prefix) -> usize
     1 + (usize::from(prefix.len()) + 7) / 8
 }
 
-/// The message of a piece, in a vector of exactly its size.
-fn write_piece(
+/// The UPDATE that gives each prefix of a piece these attributes, or withdraws it.
+pub(crate) fn write_piece(
     alloc: Global,
     attrs: Option<&[u8]>,
     piece: &[Prefix],
-    buffer: &mut [u8; 4096],
 ) -> Result<Vec<u8>, NoMemory>
     requires { length (update_of (value_in attrs) piece.now) ≤ 4096 }
     ensures { IfOk result (λ message. message.items ≡ update_of (value_in attrs.entry) piece.now) }
 {
     match attrs {
-        None => write_message(alloc, piece, &[], &[], buffer),
-        Some(octets) => write_message(alloc, &[], octets, piece, buffer),
+        None => update_message(alloc, piece, &[], &[]),
+        Some(octets) => update_message(alloc, &[], octets, piece),
     }
-}
-
-/// The UPDATE of these sections.
-fn write_message(
-    alloc: Global,
-    withdrawn: &[Prefix],
-    attrs: &[u8],
-    nlri: &[Prefix],
-    buffer: &mut [u8; 4096],
-) -> Result<Vec<u8>, NoMemory>
-    requires { length (update_octets withdrawn.now attrs.now nlri.now) ≤ 4096 }
-    ensures { IfOk result (λ message. message.items ≡ update_octets withdrawn.now attrs.now nlri.now) }
-{
-    let Some(count) = write_update(withdrawn, attrs, nlri, buffer) else {
-        unreachable!()
-    };
-    Ok(Vec::from_slice(alloc, &buffer[..count])?)
 }

@@ -1,6 +1,6 @@
 //! Offers in groups that are found by their attribute octets.
 
-ghost use Rattle.std.specs.Prelude.{◌≡◌, ℕ, ◌<◌, ◌≤◌, List, map, length, Some, None, Option, IfOk, OnOk, AllPairs, IsTrue};
+ghost use Rattle.std.specs.Prelude.{◌≡◌, ℕ, ◌<◌, ◌≤◌, ◌∷◌, [], List, map, length, Some, None, Option, IfOk, OnOk, AllPairs, IsTrue};
 ghost use Rattle.std.specs.List.{AllByRecursion};
 ghost use Rattle.rcp_base.specs.Maps.{is_before};
 ghost use Rattle.rcp_model.specs.Cells.{IsSendable, Carries};
@@ -10,7 +10,7 @@ ghost use Rattle.update_pack.specs.Grouping.{place_of, put_in};
 ghost use Rattle.update_pack.specs.Shown.{cell_of, groups_in};
 ghost use Rattle.update_pack.specs.Places.{ArePlaces, IsAPlace};
 
-use crate::filling::write_groups;
+use crate::filling::{write_groups, write_piece};
 use crate::group::Group;
 use crate::grouping::{add_prefix, no_groups, open_group};
 use crate::key::OctetsKey;
@@ -24,8 +24,31 @@ use std::collections::HashMap;
 /// of its own. Where the prefixes rise, the UPDATEs replayed after any table give each offer, and leave other prefixes.
 ///
 /// `NoMemory` where there is no room for the groups or the messages. It takes the time of one look-up in a hash map for each offer
-/// whose attributes aren't those of the offer before.
+/// whose attributes aren't those of the offer before, and none for a single offer.
 pub fn pack(alloc: Global, offers: &[Offer]) -> Result<Vec<Vec<u8>>, NoMemory>
+    ensures packed { IfOk result (λ messages. map (λ m. m.items) messages.items ≡ packed (map cell_of offers.now)) }
+    ensures carried { IfOk result (λ messages. AllPairs (λ a b. IsTrue (is_before a.prefix b.prefix)) offers.now
+        → Carries (map (λ m. m.items) messages.items) (map cell_of offers.now)) }
+{
+    if offers.len() == 1 {
+        return pack_one(alloc, &offers[0]);
+    }
+    pack_groups(alloc, offers)
+}
+
+/// The UPDATE of one offer. After most changes each router is sent one, so it takes no groups.
+fn pack_one(alloc: Global, offer: &Offer) -> Result<Vec<Vec<u8>>, NoMemory>
+    ensures packed { IfOk result (λ messages. map (λ m. m.items) messages.items ≡ packed (cell_of offer.now ∷ [])) }
+    ensures sendable { IsSendable (cell_of offer.now) }
+{
+    let (prefix, attrs) = cell_of(offer);
+    let mut messages = Vec::with_capacity(alloc, 1)?;
+    messages.push(write_piece(alloc, attrs, &[prefix])?)?;
+    Ok(messages)
+}
+
+/// The UPDATEs of offers, by their groups.
+fn pack_groups(alloc: Global, offers: &[Offer]) -> Result<Vec<Vec<u8>>, NoMemory>
     ensures packed { IfOk result (λ messages. map (λ m. m.items) messages.items ≡ packed (map cell_of offers.now)) }
     ensures carried { IfOk result (λ messages. AllPairs (λ a b. IsTrue (is_before a.prefix b.prefix)) offers.now
         → Carries (map (λ m. m.items) messages.items) (map cell_of offers.now)) }

@@ -25,12 +25,18 @@ router 10.0.0.1 10.0.0.1\nrouter 10.0.0.2 10.0.0.2\nrouter 10.0.0.3 10.0.0.3\n\
 router 10.0.0.4 10.0.0.4\nrouter 10.0.0.5 10.0.0.5\n\
 link 10.0.0.1 10.0.0.2 1\nlink 10.0.0.2 10.0.0.3 30\nlink 10.0.0.2 10.0.0.4 5\n";
 
+/// Four routers without links.
+const BARE_FOUR: &str = "as 65000\nid 10.0.0.254\nshards 2\nhold 90\narea 0.0.0.0\n\
+router 10.0.0.1 10.0.0.1\nrouter 10.0.0.2 10.0.0.2\nrouter 10.0.0.3 10.0.0.3\n\
+router 10.0.0.4 10.0.0.4\n";
+
 /// Rosters by name.
 const ROSTERS: &[(&str, &str)] = &[
     ("LINKED", LINKED),
     ("BARE", BARE),
     ("ONE_SHARD", ONE_SHARD),
     ("STAR", STAR),
+    ("BARE_FOUR", BARE_FOUR),
 ];
 
 /// Octets by name, in hexadecimal.
@@ -80,6 +86,10 @@ const OCTETS: &[(&str, &str)] = &[
     ("KEEPALIVE", "ffffffffffffffffffffffffffffffff 0013 04"),
     // Link State Updates (RFC 2328 section A.3.5) up to their LSAs, by length and number of LSAs; and an empty packet of another type.
     (
+        "PACKET_172_4",
+        "020400ac 0aff0001 00000000 00000000 00000000 00000000 00000004",
+    ),
+    (
         "PACKET_148_3",
         "02040094 0aff0001 00000000 00000000 00000000 00000000 00000003",
     ),
@@ -127,6 +137,31 @@ const OCTETS: &[(&str, &str)] = &[
     (
         "LSA_B_NEWER",
         "00010201 0a000002 0a000002 80000002 2cd4 0030 00000002 0a000001 00000000 0100000b 0a000003 00000000 0100000a",
+    ),
+    // A's LSA with a metric of 0, that of B with the link to A alone, and those of C and F with a link to each other, of metrics 5 and 6.
+    (
+        "LSA_A_FREE",
+        "00010201 0a000001 0a000001 80000001 1a19 0024 00000001 0a000002 00000000 01000000",
+    ),
+    (
+        "LSA_B_TO_A",
+        "00010201 0a000002 0a000002 80000001 b473 0024 00000001 0a000001 00000000 0100000a",
+    ),
+    (
+        "LSA_C_5",
+        "00010201 0a000003 0a000003 80000001 68bf 0024 00000001 0a000004 00000000 01000005",
+    ),
+    (
+        "LSA_F_5",
+        "00010201 0a000004 0a000004 80000001 4ed8 0024 00000001 0a000003 00000000 01000005",
+    ),
+    (
+        "LSA_C_6",
+        "00010201 0a000003 0a000003 80000001 7aac 0024 00000001 0a000004 00000000 01000006",
+    ),
+    (
+        "LSA_F_6",
+        "00010201 0a000004 0a000004 80000001 60c5 0024 00000001 0a000003 00000000 01000006",
     ),
     // A's LSA with another last octet than its checksum; of age 3590; and the newer one of age 3600, which flushes it.
     (

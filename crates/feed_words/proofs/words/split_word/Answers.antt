@@ -1,5 +1,4 @@
-use Rattle.std.proofs.Common.{◌∷◌, [], ℕ, List, sym, ◌≡◌, ◌∙◌}
-use Rattle.std.specs.Prelude.{MatchOption}
+use Rattle.std.proofs.Common.{sym, ◌≡◌}
 use Rattle.feed_words.specs.Words.{words_of}
 use Rattle.feed_words.proofs.WordLemmas.{start_words, start_is, no_start}
 use Rattle.feed_words.proofs.words.split_word.Goals as goal

@@ -1,5 +1,4 @@
-use Rattle.std.proofs.Common.{◌∷◌, List, ℕ, ap, sym, ne_eqb, ◌∙◌, ◌≡◌, take, drop}
-use Rattle.feed_words.specs.Words.{words_of}
+use Rattle.std.proofs.Common.{sym, ne_eqb}
 use Rattle.feed_words.proofs.WordLemmas.{word_at, last_word_by_search}
 use Rattle.feed_words.proofs.words.word_in_front.Goals as goal
 

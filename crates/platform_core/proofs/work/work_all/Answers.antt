@@ -7,13 +7,13 @@ use Rattle.platform_core.proofs.WorkLemmas.{sent_by}
 use Rattle.platform_core.proofs.work.work_all.Goals as goal
 
 pub returns-in_err-lists-clause-kept : goal.returns-in_err-lists-clause-kept
-returns-in_err-lists-clause-kept c = keeps_worked (all_pending c.args.shards.now.shards) c.args.shards.now c.work_all.new.self c.work_all.ensures.after
+returns-in_err-lists-clause-kept g c = keeps_worked (all_pending c.args.shards.now.shards) c.args.shards.now c.work_all.new.self c.work_all.ensures.after
 
 pub returns-clause-kept : goal.returns-clause-kept
-returns-clause-kept c = keeps_worked (all_pending c.args.shards.now.shards) c.args.shards.now c.work_all.new.self c.work_all.ensures.after
+returns-clause-kept g c = keeps_worked (all_pending c.args.shards.now.shards) c.args.shards.now c.work_all.new.self c.work_all.ensures.after
 
 pub returns-clause-output : goal.returns-clause-output
-returns-clause-output c =
+returns-clause-output g c =
     on_ok c.put_out.result (λ put.
     put ∙ ap (λ (l : List OutRecord). c.args.out.now ++ l)
     (sent_by (all_pending c.args.shards.now.shards) c.args.shards.now c.work_all.new.self c.args.connections.now.sessions c.deref-2.result.now c.deref.result.now c.in_ok-lists.lists.items

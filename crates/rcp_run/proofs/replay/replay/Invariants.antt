@@ -1,10 +1,10 @@
 -- What is answered from the platform reached is the answer for the whole feed. Neither count of faults has fallen, and the feed that is left is finite.
-use Rattle.std.proofs.Common.{◌≡◌, ◌+◌, ◌-◌, ◌^◌, List, ℕ, Option, Some}
+use Rattle.std.proofs.Common.{◌≡◌, ◌-◌, ◌^◌, List, ℕ, Option, Some}
 use Rattle.outside.specs.Told.{NeverFalls}
 use Rattle.feed_meaning.specs.Platform.{Platform}
 use Rattle.platform_laws.specs.Platforms.{IsSeen}
 use Rattle.feed_format.specs.declared.status.Status.{Status}
-use Rattle.rcp_run.specs.Going.{Answers, AnswersFrom, IsGoing}
+use Rattle.feed_run.specs.Going.{Answers, AnswersFrom, IsGoing}
 use Rattle.rcp_run.proofs.replay.replay.Given as goal
 
 abbrev pub invariant-loop-status : goal.invariant-loop-status

@@ -1,12 +1,13 @@
-use Rattle.std.proofs.Common.{List, ℕ, ap, ◌∙◌, subst}
+use Rattle.std.proofs.Common.{List, ap, ◌∙◌, subst}
 use Rattle.std.specs.List.{flat_map, AllByRecursion}
 use Rattle.outside.specs.Told.{behind}
 use Rattle.rcp_base.specs.Feed.{FeedState, OutRecord, out_octets}
 use Rattle.feed_meaning.specs.Runs.{act}
 use Rattle.feed_format.specs.Writing.{WritesLess}
-use Rattle.rcp_run.specs.Frames.{IsFramed}
-use Rattle.rcp_run.specs.Going.{AnswersFrom, Acts}
-use Rattle.rcp_run.proofs.StepLemmas.{goes_on, write-ends}
+use Rattle.feed_run.specs.Frames.{IsFramed}
+use Rattle.feed_run.specs.Going.{AnswersFrom, Acts}
+use Rattle.feed_run.proofs.StepLemmas.{goes_on, write-ends}
+use Rattle.rcp_run.proofs.CommandLemmas.{stop-cause}
 use Rattle.rcp_run.proofs.replay.turn.Goals as goal
 
 pub returns-in-Ok-None-clause-ends : goal.returns-in-Ok-None-clause-ends
@@ -44,3 +45,6 @@ returns-in-Ok-Some-clause-ends g c = λ platform octets seen told.
 
 pub returns-clause-ends : goal.returns-clause-ends
 returns-clause-ends g c = λ platform octets seen told. c.in-Err.ensures.ends platform octets (g.K.Sink.taken c.args.sink.now) seen told
+
+pub returns-clause-cause : goal.returns-clause-cause
+returns-clause-cause g c = stop-cause c.in-Err.status _ _ _ _ c.in-Err.ensures.cause

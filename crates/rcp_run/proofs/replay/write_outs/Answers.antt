@@ -1,5 +1,5 @@
 use Rattle.std.proofs.Common.{List, ℕ, sym, subst}
-use Rattle.rcp_run.proofs.WrittenLemmas.{wrote_less, parts_of, on_err}
+use Rattle.feed_run.proofs.WrittenLemmas.{wrote_less, parts_of, on_err}
 use Rattle.feed_format.specs.Writing.{WritesLess}
 use Rattle.rcp_run.proofs.replay.write_outs.Goals as goal
 

@@ -3,7 +3,7 @@ use Rattle.std.proofs.Common.{◌≡◌, take}
 use Rattle.std.specs.List.{flat_map, AllByRecursion}
 use Rattle.outside.specs.Told.{NeverFalls, behind}
 use Rattle.rcp_base.specs.Feed.{out_octets}
-use Rattle.rcp_run.specs.Frames.{IsFramed}
+use Rattle.feed_run.specs.Frames.{IsFramed}
 use Rattle.rcp_run.proofs.replay.write_outs.Given as goal
 
 abbrev pub invariant-loop-out : goal.invariant-loop-out

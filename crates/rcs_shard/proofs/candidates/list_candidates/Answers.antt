@@ -3,12 +3,13 @@ use Rattle.std.specs.Prelude.{Contains}
 use Rattle.std.proofs.Math.ListN.{set, length-set}
 use Rattle.std.proofs.lemmas.List.{take_more, take_more_set, take_all}
 use Rattle.std.proofs.lemmas.List.Elements.{Contains-get_or}
-use Rattle.rcp_model.specs.Decision.{contender}
+use Rattle.rcp_model.specs.Decision.{Contender, contender}
+use Rattle.rcp_model.proofs.GraphLemmas.{All-from_members}
 use Rattle.rcp_model.specs.Routes.{is_usable}
 use Rattle.rcp_model.specs.RouteServer.{slot_cost}
 use Rattle.cost_rows.specs.Views.{identifier_at}
 use Rattle.adj_ribs.specs.Bases.{IsAnnouncer}
-use Rattle.rcs_shard.proofs.ContenderLemmas.{place_low, listed_none, listed_skip, listed_more, listed_all, listed_to}
+use Rattle.rcs_shard.proofs.ContenderLemmas.{Rises, rises_none, rises_skip, rises_more, rises_apart, place_low, listed_none, listed_skip, listed_more, listed_all, listed_to}
 use Rattle.rcs_shard.proofs.candidates.list_candidates.Goals as goal
 use Rattle.rcs_shard.proofs.candidates.list_candidates.Goals.{then-is_candidate, else-is_candidate, After-route, Joined-is_candidate}
 
@@ -59,6 +60,7 @@ loop-announcer-init c = record {
   room = omega arith;
   list_is = c.requires.room;
   from_is = c.requires.places;
+  rises = rises_none c.announcers-announcer-items.result.now c.args.list.now;
   listed = listed_none c.args.ribs.now c.args.view.now c.args.p c.args.slot c.args.list.now c.args.from.now;
 }
 
@@ -79,17 +81,21 @@ loop-announcer-preserved c =
           let egress_is : w.egress.inside.0 ≡ item.0 = w.egress.view_is ∙ c.slot-egress.ensures in
           let is_x = w.of.ensures ∙ (λ i. contender c.slot-egress.result (w.identifier_of.ensures i) c.route-route.result.now)
           ∙ ap (λ s. contender s (identifier_at view.members s) c.route-route.result.now) c.slot-egress.ensures in
+          let seen = (λ i. take (w.count-is i) (w.list-is i)) ∙ take_more_set c.loop-announcer.list c.loop-announcer.count w.of.result less in
           record {
             few = omega (arith, w.count-is, c.loop-announcer.invariant.few);
             room = omega (arith, w.count-is, less, ap length w.list-is, length-set c.loop-announcer.list c.loop-announcer.count w.of.result);
             list_is = c.if-is_candidate.auto.list ∙ c.loop-announcer.invariant.list_is;
             from_is = c.if-is_candidate.auto.from ∙ c.loop-announcer.invariant.from_is;
+            rises = subst (Rises c.announcers-announcer-items.result.now (c.loop-announcer.announcer-index + 1)) (sym seen)
+                (rises_more c.announcers-announcer-items.result.now c.announcers-announcer-items.ensures.rising c.loop-announcer.announcer-index item c.loop-announcer-test.true c.announcer-item.is
+                (take c.loop-announcer.count c.loop-announcer.list) w.of.result (ap (λ (a : Contender). a.slot) is_x) c.loop-announcer.invariant.rises);
             listed = listed_to bases view c.args.p c.args.slot
                 (take c.loop-announcer.announcer-index c.announcers-announcer-items.result.now ++ item ∷ []) (take (c.loop-announcer.announcer-index + 1) c.announcers-announcer-items.result.now)
                 (take c.loop-announcer.count c.loop-announcer.list ++ w.of.result ∷ []) (take c.if-is_candidate.count c.if-is_candidate.list)
                 (set c.loop-announcer.from item.0 (Some item)) c.if-is_candidate.from
                 passed
-                ((λ i. take (w.count-is i) (w.list-is i)) ∙ take_more_set c.loop-announcer.list c.loop-announcer.count w.of.result less)
+                seen
                 (w.from-is ∙ ap (λ s. set c.loop-announcer.from s (Some item)) egress_is)
                 (listed_more bases view c.args.p c.args.slot (take c.loop-announcer.announcer-index c.announcers-announcer-items.result.now) (take c.loop-announcer.count c.loop-announcer.list)
                 c.loop-announcer.from c.loop-announcer.invariant.listed item.0 item.1 c.route-route.result.now announced w.of.result
@@ -100,6 +106,8 @@ loop-announcer-preserved c =
         room = omega (arith, w.count-is, c.loop-announcer.invariant.room, ap length w.list-is);
         list_is = c.if-is_candidate.auto.list ∙ c.loop-announcer.invariant.list_is;
         from_is = c.if-is_candidate.auto.from ∙ c.loop-announcer.invariant.from_is;
+        rises = subst (Rises c.announcers-announcer-items.result.now (c.loop-announcer.announcer-index + 1)) (λ i. take (sym w.count-is i) (sym w.list-is i))
+            (rises_skip c.announcers-announcer-items.result.now c.loop-announcer.announcer-index (take c.loop-announcer.count c.loop-announcer.list) c.loop-announcer.invariant.rises);
         listed = listed_to bases view c.args.p c.args.slot
             (take c.loop-announcer.announcer-index c.announcers-announcer-items.result.now ++ item ∷ []) (take (c.loop-announcer.announcer-index + 1) c.announcers-announcer-items.result.now)
             (take c.loop-announcer.count c.loop-announcer.list) (take c.if-is_candidate.count c.if-is_candidate.list)
@@ -118,3 +126,12 @@ returns-clause-listed c =
     (listed_to c.args.ribs.now c.args.view.now c.args.p c.args.slot (take c.loop-announcer.announcer-index c.announcers-announcer-items.result.now) c.announcers-announcer-items.result.now
     (take c.loop-announcer.count c.loop-announcer.list) (take c.loop-announcer.count c.loop-announcer.list) c.loop-announcer.from c.loop-announcer.from
     (sym all) refl refl c.loop-announcer.invariant.listed)
+
+pub returns-clause-distinct : goal.returns-clause-distinct
+returns-clause-distinct c =
+    rises_apart c.announcers-announcer-items.result.now c.loop-announcer.announcer-index (take c.loop-announcer.count c.loop-announcer.list) c.loop-announcer.invariant.rises
+
+pub returns-clause-members : goal.returns-clause-members
+returns-clause-members c =
+    All-from_members (λ (a : Contender). a.slot < length c.args.view.now.members) (take c.loop-announcer.count c.loop-announcer.list)
+    (λ a inside. (c.loop-announcer.invariant.listed.sound a inside).within)

@@ -1,8 +1,14 @@
-use Rattle.std.proofs.Common.{take, subst}
+use Rattle.std.proofs.Common.{ℕ, ◌<◌, take, sym, subst}
+use Rattle.std.specs.Prelude.{All}
+use Rattle.rcp_model.specs.Decision.{Contender}
 use Rattle.rcp_model.proofs.FilterLemmas.{member_of_tied}
 use Rattle.rcs_shard.specs.Settling.{candidates_at, IsKept}
 use Rattle.rcs_shard.proofs.ContenderLemmas.{tied_same}
 use Rattle.rcs_shard.proofs.settling.settle_class.Goals as goal
+
+pub list_tied-tied-requires-clause-members : goal.list_tied-tied-requires-clause-members
+list_tied-tied-requires-clause-members c =
+    subst (λ (n : ℕ). All (λ (a : Contender). a.slot < n) (take c.list_candidates-count.result c.list_candidates-count.new.list)) (sym c.requires.marks) c.list_candidates-count.ensures.members
 
 pub settle_slots-requires-clause-tied : goal.settle_slots-requires-clause-tied
 settle_slots-requires-clause-tied c =

@@ -2,10 +2,6 @@ use Rattle.std.proofs.Common.{ℕ, ◌≤◌, List, [], ◌∷◌, length, map, 
 use Rattle.std.specs.Prelude.{All}
 use Rattle.std.proofs.lemmas.List.{map-append}
 use Rattle.std.proofs.lemmas.List.Elements.{All-push}
-use Rattle.rcp_base.specs.IpPrefix.{IpPrefix}
-use Rattle.rcp_model.specs.Packing.{packed}
-use Rattle.rcs_shard.specs.Shards.{ShardOf}
-use Rattle.rcs_shards.specs.Dirty.{cells_of}
 use Rattle.rcs_shards.proofs.SendLemmas.{sends-turn, sends-all}
 use Rattle.rcs_shards.proofs.sending.send.Goals as goal
 
@@ -14,12 +10,9 @@ loop-slot-preserved c =
     let octets_of : Vec (Vec ℕ Global) Global → List (List ℕ) = λ messages. map (λ (m : Vec ℕ Global). m.items) messages.items in
     let are_short : Vec (Vec ℕ Global) Global → Type 0 = λ messages. All (λ (m : Vec ℕ Global). length m.items ≤ 4096) messages.items in
     let pushed = c.in_ok-push.ensures.items in (
-      sends-turn c.args.roster.now c.args.slots.now c.requires.distinct c.loop-slot.slot-index c.loop-slot-test.true c.args.shards.now.items c.loop-slot.shards.items c.take_changed.new.shards.items
-          (map octets_of c.loop-slot.lists.items) (map octets_of c.push.new.self.items) c.loop-slot.invariant.0 c.slot-item.result c.slot-item.is c.take_changed.ensures.after
-          c.in_ok-changed.changed.items c.in_ok-changed.ensures.prefixes (octets_of c.in_ok-updates.field-0)
-          (c.in_ok-updates.ensures.packed
-          ∙ ap (λ (l : List ShardOf). packed (cells_of c.args.roster.now l c.slot-item.result c.deref-in-loop-slot.result.now)) c.deref.ensures.value
-          ∙ ap (λ (l : List IpPrefix). packed (cells_of c.args.roster.now c.take_changed.new.shards.items c.slot-item.result l)) c.deref-in-loop-slot.ensures.value)
+      sends-turn c.args.roster.now c.args.slots.now c.requires.distinct c.loop-slot.slot-index c.loop-slot-test.true c.args.shards.now.items c.loop-slot.shards.items c.updates.new.shards.items
+          (map octets_of c.loop-slot.lists.items) (map octets_of c.push.new.self.items) c.loop-slot.invariant.0 c.slot-item.result c.slot-item.is c.updates.ensures.after
+          (octets_of c.in_ok-updates.field-0) c.in_ok-updates.ensures.packed
           (ap (map octets_of) pushed ∙ map-append octets_of c.loop-slot.lists.items (c.in_ok-updates.field-0 ∷ [])),
       subst (All are_short) (sym pushed) (All-push are_short c.loop-slot.lists.items c.in_ok-updates.field-0 c.loop-slot.invariant.1 c.in_ok-updates.ensures.short),
     )

@@ -1,9 +1,12 @@
-use Rattle.std.proofs.Common.{◌≡◌, ◌+◌, List, [], ℕ, Option, None, length, take, drop, refl, sym, ap, subst, ◌∙◌, arith, length-drop}
+use Rattle.std.proofs.Common.{◌≡◌, ◌+◌, List, [], ℕ, Option, None, Some, true, length, take, drop, refl, sym, ap, subst, ◌∙◌, arith, length-drop}
 use Rattle.std.specs.Prelude.{MatchOption}
 use Rattle.std.proofs.Math.Seq.{drop-length}
 use Rattle.std.proofs.lemmas.List.{drop-drop}
 use Rattle.rcp_model.specs.Messages.{message_size, message_octets}
-use Rattle.rcp_model.specs.Sessions.{Phase, fault_in_front, course_of, handle}
+use Rattle.rcp_base.specs.Roster.{RosterOf}
+use Rattle.rcp_model.specs.Sessions.{Phase, fault_in_front, course_of, handle, reads}
+use Rattle.session_core.specs.Counts.{handled_in}
+use Rattle.session_core.proofs.CountLemmas.{handled-front, handled-stop, handled-none}
 use Rattle.rcp_model.proofs.ReadingLemmas.{message_size-Some}
 use Rattle.bgp_msg.specs.declared.framing.Message.{Message}
 use Rattle.bgp_msg.specs.Cutting.{IsInFront}
@@ -20,6 +23,16 @@ abbrev Stands : List ℕ → Option Message → Type 0
 Stands octets found = MatchOption found
     ((message_size octets ≡ None) × (fault_in_front octets ≡ None))
     (λ message. IsInFront octets message.kind message.body.now)
+
+-- a message more was handled
+counted-on : (roster : RosterOf) (now : ℕ) (octets : List ℕ) (taken count handled : ℕ) (phase next : Phase) (all : ℕ) → message_size (drop taken octets) ≡ Some count → reads phase ≡ true
+    → next ≡ (handle roster now (take count (drop taken octets)) phase).phase → handled + handled_in roster now (drop taken octets) phase ≡ all
+    → (handled + 1) + handled_in roster now (drop (taken + count) octets) next ≡ all
+counted-on roster now octets taken count handled phase next all size reading is so_far =
+    let front = handled-front roster now (drop taken octets) count phase size reading in
+    let rest : handled_in roster now (drop count (drop taken octets)) (handle roster now (take count (drop taken octets)) phase).phase ≡ handled_in roster now (drop (taken + count) octets) next =
+    ap (λ (p : Phase). handled_in roster now (drop count (drop taken octets)) p) (sym is) ∙ ap (λ (o : List ℕ). handled_in roster now o next) (drop-drop count taken octets) in
+    omega (arith, front, rest, so_far)
 
 pub loop-reading-preserved : goal.loop-reading-preserved
 loop-reading-preserved c =
@@ -39,7 +52,26 @@ loop-reading-preserved c =
           ap (λ (o : List ℕ). going c.args.roster.now c.args.now c.handle.new.actions o c.in_ok-state-in-Ok-Some.state) (sym (drop-drop count taken octets))
           ∙ goes-on c.args.roster.now c.args.now (drop taken octets) count c.loop-reading.state c.in_ok-state-in-Ok-Some.state c.loop-reading.actions c.handle.new.actions size c.in-Some.ensures.0 takes
           ∙ c.loop-reading.invariant.same;
+      counted = counted-on c.args.roster.now c.args.now c.args.octets.now taken count c.loop-reading.handled (phase_of c.loop-reading.state) (phase_of c.in_ok-state-in-Ok-Some.state) _
+          size c.in-Some.ensures.0 takes.phase c.loop-reading.invariant.counted;
+      few = omega (arith, c.loop-reading.invariant.few);
     }
+
+pub returns-in-Ok-None-clause-handled : goal.returns-in-Ok-None-clause-handled
+returns-in-Ok-None-clause-handled c =
+    let given = subst (Stands c.split_at.result.1.now) c.in-Ok-None.field-0-is c.in-Ok-None.ensures.given in
+    let none = handled-stop c.args.roster.now c.args.now (drop c.loop-reading.taken c.args.octets.now) (phase_of c.loop-reading.state) (ap message_size (sym c.split_at.ensures.back) ∙ given.0) in
+    omega (arith, none, c.loop-reading.invariant.counted)
+
+pub returns-in-Err-clause-handled : goal.returns-in-Err-clause-handled
+returns-in-Err-clause-handled c =
+    let none = handled-stop c.args.roster.now c.args.now (drop c.loop-reading.taken c.args.octets.now) (phase_of c.loop-reading.state) (ap message_size (sym c.split_at.ensures.back) ∙ c.in-Err.ensures.given.0) in
+    omega (arith, none, c.loop-reading.invariant.counted)
+
+pub returns-clause-handled : goal.returns-clause-handled
+returns-clause-handled c =
+    let none = handled-none c.args.roster.now c.args.now (drop c.loop-reading.taken c.args.octets.now) (phase_of c.loop-reading.state) c.in_default.ensures in
+    omega (arith, none, c.loop-reading.invariant.counted)
 
 pub returns-in-Ok-None-clause-runs : goal.returns-in-Ok-None-clause-runs
 returns-in-Ok-None-clause-runs c =

@@ -1,9 +1,8 @@
-use Rattle.std.proofs.Common.{◌≡◌, ℕ, suc, ◌+◌, ◌-◌, ◌^◌, min, ◌<◌, ◌++◌, ◌∷◌, [], length, refl, sym, ap, subst, ◌∙◌, length-append, arith}
+use Rattle.std.proofs.Common.{◌≡◌, suc, ◌∷◌, [], length, ap, ◌∙◌, length-append, arith}
 use Rattle.rcs_shard.specs.Shards.{ShardOf}
 use Rattle.mailbox.specs.Boxes.{sent}
-use Rattle.rcp_model.specs.Routes.{OfferFields}
 use Rattle.shard_worker.specs.Offers.{dirty_of, offer_at}
-use Rattle.shard_worker.specs.Ends.{PortOf, port_of}
+use Rattle.shard_worker.specs.Ends.{port_of}
 use Rattle.shard_worker.proofs.PortLemmas.{put_next, put_one, put_as, fewer_left}
 use Rattle.shard_worker.proofs.offering.put_dirty.Goals as goal
 

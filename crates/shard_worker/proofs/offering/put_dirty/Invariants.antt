@@ -1,5 +1,4 @@
 use Rattle.std.proofs.Common.{◌≡◌, ℕ, ◌+◌, ◌-◌, ◌^◌, min, length}
-use Rattle.mailbox.specs.Boxes.{sent, refusals_of}
 use Rattle.rcs_shard.specs.Shards.{ShardOf}
 use Rattle.shard_worker.specs.Offers.{dirty_of}
 use Rattle.shard_worker.specs.Ends.{PortOf, port_of}

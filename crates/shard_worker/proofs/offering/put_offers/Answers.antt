@@ -1,4 +1,4 @@
-use Rattle.std.proofs.Common.{◌≡◌, ℕ, ◌+◌, ◌-◌, ◌<◌, ◌≤◌, get_or, min, length, refl, sym, ap, subst, ◌∙◌, arith}
+use Rattle.std.proofs.Common.{◌+◌, ◌-◌, ◌<◌, get_or, length, ap, arith}
 use Rattle.shard_worker.specs.Ends.{port_of}
 use Rattle.shard_worker.proofs.OfferingLemmas.{offering_all, sender_step, sender_stops, sender_counts, stops_all}
 use Rattle.shard_worker.proofs.offering.put_offers.Goals as goal

@@ -1,6 +1,6 @@
-use Rattle.std.proofs.Common.{◌≡◌, ℕ, ◌+◌, ◌<◌, ◌≤◌, Bool, true, List, [], ◌∷◌, ◌++◌, length, refl, sym, ap, subst, ◌∙◌, length-append, arith}
+use Rattle.std.proofs.Common.{◌≡◌, ℕ, true, List, [], ◌∷◌, ◌++◌, refl, sym, ap, subst, ◌∙◌, length-append, arith}
 use Rattle.mailbox.specs.Boxes.{counted}
-use Rattle.shard_worker.specs.Runs.{Letter, RunOf, after_messages}
+use Rattle.shard_worker.specs.Runs.{Letter, after_messages}
 use Rattle.shard_worker.specs.Ends.{InboxOf, inbox_of}
 use Rattle.shard_worker.specs.Turns.{HasTaken}
 use Rattle.shard_worker.proofs.MailLemmas.{taken_more, taken_none, taken_next, message_next, no_messages, since, stopped, filled}

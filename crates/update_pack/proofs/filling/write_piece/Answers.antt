@@ -2,18 +2,18 @@
 use Rattle.rcp_model.specs.Packing.{update_of}
 use Rattle.update_pack.proofs.filling.write_piece.Goals as goal
 
-pub write_message-requires : goal.write_message-requires
+pub update_message-requires : goal.update_message-requires
 unfolding update_of
-write_message-requires c = rw c.in-None.is at c.requires
+update_message-requires c = rw c.in-None.is at c.requires
 
-pub write_message-requires-in-Some : goal.write_message-requires-in-Some
+pub update_message-requires-in-Some : goal.update_message-requires-in-Some
 unfolding update_of
-write_message-requires-in-Some c = rw c.in-Some.is at c.requires
+update_message-requires-in-Some c = rw c.in-Some.is at c.requires
 
 pub returns-in-None : goal.returns-in-None
 unfolding update_of
-returns-in-None c = rw c.in-None.is c.write_message.ensures
+returns-in-None c = rw c.in-None.is c.update_message.ensures
 
 pub returns-in-Some : goal.returns-in-Some
 unfolding update_of
-returns-in-Some c = rw c.in-Some.is c.write_message-in-Some.ensures
+returns-in-Some c = rw c.in-Some.is c.update_message-in-Some.ensures

@@ -10,7 +10,7 @@ use Rattle.platform_core.proofs.JoinLemmas.{kept_spent, kept_joined}
 use Rattle.platform_core.proofs.platform.Platform.drain.Goals as goal
 
 pub returns-clause-steps : goal.returns-clause-steps
-returns-clause-steps c = λ item is.
+returns-clause-steps g c = λ item is.
     let s = c.self.inside in
     let server = s.shards in
     let after = c.work_all.new.shards in
@@ -26,16 +26,16 @@ returns-clause-steps c = λ item is.
     (c.in_ok-add_summary.ensures ∙ ap (λ (r : OutRecord). c.work_all.new.out ++ r ∷ []) last))
 
 pub invariant_of-self : goal.invariant_of-self
-invariant_of-self c =
+invariant_of-self g c =
     let s = c.self.inside in
     kept_spent s.shards c.work_all.new.shards s.connections s.connections s.time s.time s.links s.links s.is_spent c.work_all.ensures.kept c.self.invariant
 
 pub invariant_of-self-2 : goal.invariant_of-self-2
-invariant_of-self-2 c =
+invariant_of-self-2 g c =
     let s = c.self.inside in
-    kept_joined s.shards c.work_all.new.shards s.connections s.time s.links s.is_spent (ap (λ (p : StateOf). p.spent) c.self.view_is ∙ c.requires) c.work_all.ensures.kept c.self.invariant
+    kept_joined s.shards c.work_all.new.shards s.connections s.time s.links s.is_spent (ap (λ (p : StateOf). p.spent) c.self.view_is ∙ c.requires.fresh) c.work_all.ensures.kept c.self.invariant
 
 pub invariant_of-self-in_err-add_summary : goal.invariant_of-self-in_err-add_summary
-invariant_of-self-in_err-add_summary c =
+invariant_of-self-in_err-add_summary g c =
     let s = c.self.inside in
     kept_spent s.shards c.work_all.new.shards s.connections s.connections s.time s.time s.links s.links s.is_spent c.work_all.ensures.kept c.self.invariant

@@ -1,5 +1,6 @@
 use Rattle.std.proofs.Common.{◌≡◌, ℕ, length, sym, ap, subst, ◌∙◌, rules}
 use Rattle.std.specs.FinSet as set_of
+use Rattle.std.proofs.lemmas.List.{length-replicate}
 use Rattle.cost_rows.specs.Views.{ViewOf}
 use Rattle.cost_rows.proofs.SearchLemmas.{whole}
 use Rattle.adj_ribs.specs.Bases.{no_bases}
@@ -21,6 +22,7 @@ invariant_of-result c =
             (subst (λ (v : ViewOf). AreClasses v c.find_classes.new.classes) c.deref.ensures c.find_classes.ensures);
         list_is = (let len = c.in_ok-vec.ensures.len in search rules);
         from_is = (let len = c.in_ok-vec-2.ensures.len in search rules);
+        marks_is = ap length c.in_ok-new-3.ensures ∙ length-replicate _ _ ∙ members_are;
         tied_is = (let len = c.in_ok-vec-3.ensures.len in search rules);
       },
     )

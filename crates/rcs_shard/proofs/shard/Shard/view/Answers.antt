@@ -16,7 +16,7 @@ invariant_of-self c =
     let classes_are = whole c.find_classes.new.classes c.self.inside.classes.items c.self.inside.classes.len (c.find_classes.auto.classes ∙ c.deref_mut.ensures.len) in (
       joined_to c.self.inside.number c.self.inside.shards c.args.view.value _ _ _ c.self.inside.connected c.self.inside.ribs c.mark_moved.new.pending refl refl marks_are
           (joined_moved c.self.inside.number c.self.inside.shards c.self.inside.view.value c.self.inside.connected c.self.inside.ribs c.self.inside.pending c.self.invariant.0 c.args.view.value same),
-      places_moved c.self.inside.number c.self.inside.shards c.self.inside.view.value c.self.inside.connected c.self.inside.ribs c.self.inside.pending c.self.invariant.0 c.args.view.value same c.self.inside.classes.items _ _ _ _
+      places_moved c.self.inside.number c.self.inside.shards c.self.inside.view.value c.self.inside.connected c.self.inside.ribs c.self.inside.pending c.self.invariant.0 c.args.view.value same c.self.inside.classes.items _ _ _ _ _
           (subst (AreClasses c.args.view.value) (sym classes_are) (subst (λ (v : ViewOf). AreClasses v c.find_classes.new.classes) c.deref-3.ensures c.find_classes.ensures))
           c.self.invariant.1,
     )

@@ -15,7 +15,7 @@ settled : (c : After-settle) → Settles c.in_ok-p.p (offers_at c.self.inside.ri
     (λ s. ltb s (length c.self.inside.view.value.members) && has_slot c.self.inside.connected s) c.self.inside.ribs c.settle.new.ribs
 settled c =
     subst (λ (v : ViewOf). Settles c.in_ok-p.p (offers_at c.self.inside.ribs v c.in_ok-p.p) (λ s. ltb s (length v.members) && has_slot c.self.inside.connected s) c.self.inside.ribs c.settle.new.ribs)
-    c.deref.ensures c.settle.ensures
+    c.deref.ensures c.settle.ensures.settled
 
 pub invariant_of-self-2 : goal.invariant_of-self-2
 invariant_of-self-2 c =
@@ -29,6 +29,7 @@ invariant_of-self-2 c =
             ∙ c.settle.auto.list ∙ ap length c.deref_mut.ensures.value ∙ c.self.invariant.1.list_is;
         from_is = ap length (whole c.settle.new.from c.self.inside.from.items c.self.inside.from.len (c.settle.auto.from ∙ c.deref_mut-2.ensures.len))
             ∙ c.settle.auto.from ∙ ap length c.deref_mut-2.ensures.value ∙ c.self.invariant.1.from_is;
+        marks_is = c.settle.ensures.marks ∙ c.self.invariant.1.marks_is;
         tied_is = ap length (whole c.settle.new.slots c.self.inside.tied.items c.self.inside.tied.len (c.settle.auto.slots ∙ c.deref_mut-3.ensures.len))
             ∙ c.settle.auto.slots ∙ ap length c.deref_mut-3.ensures.value ∙ c.self.invariant.1.tied_is;
       },

@@ -13,7 +13,7 @@ pub returns-then-is_closed-clause-answered : goal.returns-then-is_closed-clause-
 returns-then-is_closed-clause-answered c roster =
     let same = sym c.self.view_is in
     closed-answers roster (Moment c.args.now) c.args.self.now c.none-actions.result (ap (λ (h : Held). h.spent) same ∙ c.if-self.false)
-    (ap (λ (h : Held). is_closed h.state.phase) same ∙ sym c.is_closed.ensures ∙ c.if-is_closed.true) c.none-actions.ensures
+    (ap (λ (h : Held). is_closed h.state.phase) same ∙ sym c.is_closed.ensures ∙ c.if-is_closed.true) c.none-actions.ensures.does
 
 pub returns-clause-answered : goal.returns-clause-answered
 returns-clause-answered c roster =
@@ -21,7 +21,7 @@ returns-clause-answered c roster =
     clock-answers roster c.args.now c.args.self.now _ c.none-actions.result c.tick.new.actions c.in_ok-state.state
     (ap (λ (h : Held). h.spent) same ∙ c.if-self.false)
     (ap (λ (h : Held). is_closed h.state.phase) same ∙ sym c.is_closed.ensures ∙ c.if-is_closed.false)
-    c.none-actions.ensures
+    c.none-actions.ensures.does
     (subst (λ (h : Held). Takes (tick (max h.state.latest c.args.now) h.state.phase) c.none-actions.result c.in_ok-state.state c.tick.new.actions) c.self.view_is
     (subst (λ (l : ℕ). Takes (tick l (phase_of c.self.inside.state)) c.none-actions.result c.in_ok-state.state c.tick.new.actions) c.max-self-inside.ensures c.in_ok-state.ensures.taken))
     refl

@@ -9,7 +9,7 @@ use Rattle.session_core.proofs.session.Session.end.Goals.{else-not-self-via-then
 pub returns-then-is_closed-clause-unspent : goal.returns-then-is_closed-clause-unspent
 returns-then-is_closed-clause-unspent c unspent roster =
     closed-answers roster End c.args.self.now c.none-actions.result unspent
-    (ap (λ (h : Held). is_closed h.state.phase) (sym c.self.view_is) ∙ sym c.is_closed.ensures ∙ c.if-is_closed.true) c.none-actions.ensures
+    (ap (λ (h : Held). is_closed h.state.phase) (sym c.self.view_is) ∙ sym c.is_closed.ensures ∙ c.if-is_closed.true) c.none-actions.ensures.does
 
 pub returns-clause-unspent : goal.returns-clause-unspent
 returns-clause-unspent c unspent roster =
@@ -21,4 +21,4 @@ returns-clause-unspent c unspent roster =
     ])
     c.move_to.ensures.spent
     (c.move_to.ensures.state ∙ ap (λ (h : Held). let r : SessionState = record { phase = Closed; kept = []; latest = h.state.latest } in r) c.self.view_is)
-    (ap (λ (d : Doing). let r : Doing = record d { closed = Some (ending Ended 0 0) } in r) c.none-actions.ensures)
+    (ap (λ (d : Doing). let r : Doing = record d { closed = Some (ending Ended 0 0) } in r) c.none-actions.ensures.does)

@@ -8,4 +8,4 @@ pub returns-clause-does : goal.returns-clause-does
 unfolding begun_established
 returns-clause-does c =
     both-are _ _ _ _ (sym (ap (λ (h : Held). h.state) c.begun-session.ensures))
-    (sym (c.in_ok-tell_up.ensures ∙ ap (λ (d : Doing). then_also d (telling (Up ∷ []))) c.none-actions.ensures))
+    (sym (c.in_ok-tell_up.ensures ∙ ap (λ (d : Doing). then_also d (telling (Up ∷ []))) c.none-actions.ensures.does))

@@ -1,4 +1,4 @@
-use Rattle.std.proofs.Common.{◌≡◌, ℕ, suc, ◌+◌, ◌-◌, ◌<◌, ◌≤◌, List, [], min, length, take, refl, sym, ap, subst, ◌∙◌, inl, inr, arith}
+use Rattle.std.proofs.Common.{◌≡◌, ℕ, suc, ◌+◌, ◌-◌, ◌≤◌, length, refl, sym, ap, subst, ◌∙◌, inl, inr, arith}
 use Rattle.rcs_shard.specs.Shards.{ShardOf}
 use Rattle.shard_worker.specs.Runs.{RunOf, run_in, pending_of, worked_off}
 use Rattle.shard_worker.proofs.WorkLemmas.{pending_first, none_pending, work_step, work_done, no_work}

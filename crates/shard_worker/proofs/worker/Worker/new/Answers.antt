@@ -1,4 +1,4 @@
-use Rattle.std.proofs.Common.{List, map, length, sym, ap, subst, ◌∙◌}
+use Rattle.std.proofs.Common.{List, map, sym, ap, subst, ◌∙◌}
 use Rattle.shard_worker.specs.Runs.{Letter, RunOf, started, after_messages}
 use Rattle.shard_worker.specs.Ends.{port_of}
 use Rattle.shard_worker.specs.Workers.{AreAlike, IsWorker}

@@ -1,11 +1,11 @@
-use Rattle.std.proofs.Common.{◌≡◌, ◌⊎◌, ℕ, List, true, length, map, take, drop, ◌++◌, refl, sym, ap, subst, ◌∙◌, inl, inr, arith}
+use Rattle.std.proofs.Common.{◌≡◌, ℕ, List, length, map, take, drop, ◌++◌, sym, ap, subst, ◌∙◌, inl, inr}
 use Rattle.std.proofs.lemmas.List.{length-map}
 use Rattle.mailbox.specs.declared.ends.Sender.{Sender}
 use Rattle.rcp_model.specs.Routes.{OfferFields}
 use Rattle.shard_worker.specs.Runs.{RunOf, pending_of, after_messages, worked_off}
-use Rattle.shard_worker.specs.Ends.{InboxOf, PortOf, inbox_of, port_of}
-use Rattle.shard_worker.specs.Workers.{WorkerOf, IsCurrent, IsRunOf, IsWorker}
-use Rattle.shard_worker.specs.Turns.{AreOffered, HasAnnounce, HasOfferLeft, taken_since}
+use Rattle.shard_worker.specs.Ends.{InboxOf, inbox_of, port_of}
+use Rattle.shard_worker.specs.Workers.{WorkerOf, IsRunOf, IsWorker}
+use Rattle.shard_worker.specs.Turns.{AreOffered, HasAnnounce, taken_since}
 use Rattle.shard_worker.proofs.TurnLemmas.{written_back, on_err, worked_of, worker_of, run_of, worker_lost, announce_lost}
 use Rattle.shard_worker.proofs.worker.Worker.turn.Goals as goal
 

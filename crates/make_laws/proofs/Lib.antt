@@ -1,0 +1,5 @@
+pub mod BodyLemmas
+pub mod RosterLemmas
+pub mod RecordLemmas
+pub mod PieceLemmas
+pub mod FeedLemmas
