@@ -247,7 +247,7 @@ module _ (earlier : FeedState) where
       roster_is : (meaning_after earlier octets).roster ≡ Some roster
       roster_is = ap (λ (o : List ℕ). (meaning_after earlier o).roster) front.2 ∙ ap (λ (m : FeedMeaning). m.roster) (meaning-read front.0)
 
-      -- no connection has begun
+      -- no connection was opened
       no_last : (after (before_next_feed earlier) item).last ≡ 0
       no_last = let other = no_connection item.kind (first_is item lawful) in rw other refl
 

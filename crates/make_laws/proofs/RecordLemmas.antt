@@ -14,7 +14,7 @@ use Rattle.feed_laws.specs.FeedReading.{state_after, AreFaultless}
 
 -- ---- one record
 
--- The state of a feed between two records: no connection above this one was begun, and the records have so many octets at most.
+-- The state of a feed between two records: no connection above this one was opened, and the records have so many octets at most.
 pub record IsAt (state : FeedState) (last most : ℕ) : Type 0 where
   pub started : state.started ≡ true
   pub last_is : state.last ≡ last

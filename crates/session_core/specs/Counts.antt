@@ -17,7 +17,7 @@ confirmed free now (OpenConfirm peering) = Closed
 confirmed free now (Established peering) = Closed
 confirmed free now Closed = Closed
 
--- Octets are read behind those that were kept.
+-- Octets are read after those that were kept.
 abbrev pub handled_at : RosterOf → Input → SessionState → ℕ
 handled_at roster (Octets piece now) session = handled_in roster (moment_in session now) (session.kept ++ piece) session.phase
 handled_at roster (Seat free now) session = handled_in roster (moment_in session now) session.kept (confirmed free (moment_in session now) session.phase)
