@@ -1,4 +1,4 @@
--- The faults that a BGP speaker tells in a NOTIFICATION (RFC 4271, sections 4.5 and 6).
+-- The faults that a BGP speaker reports in a NOTIFICATION (RFC 4271, sections 4.5 and 6).
 use Rattle.std.specs.Prelude.{ℕ, ◌+◌, ◌≤◌, List, [], ◌∷◌, length, take, drop}
 use Rattle.std.specs.Int.{w16, to_be_bytes}
 use Rattle.bgp_fault.specs.declared.Data.{Data}

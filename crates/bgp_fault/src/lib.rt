@@ -1,8 +1,8 @@
-//! The faults that a BGP speaker tells its peer in a NOTIFICATION, with their codes, subcodes and names.
+//! The faults that a BGP speaker reports to its peer in a NOTIFICATION, with their codes, subcodes and names.
 //!
 //! A fault is the record of its fields: error code, error subcode, and the data that goes with them. The data names
 //! octets of the faulty message instead of copying them, so a fault is a small `Copy` value that needs no memory.
-//! A caller may rely on `known`, which tells exactly the codes and subcodes that are told here, and on the constants
+//! A caller may rely on `known`, which says exactly which codes and subcodes stand here, and on the constants
 //! and texts, which are those of RFC 4271, sections 4.5 and 6.
 //!
 //! ```
@@ -29,7 +29,7 @@ pub use table::{ROWS, known, rows};
 #[cfg(test)]
 mod tests;
 
-/// The data of a fault: what stands behind code and subcode in the NOTIFICATION.
+/// The data of a fault: what follows code and subcode in the NOTIFICATION.
 #[derive(Clone, Copy, Debug, PartialEq, Eq)]
 pub enum Data {
     /// No octets.

@@ -1,4 +1,4 @@
--- What `feed` does: the front of a piece goes behind what is held, up to a header, and then up to its message.
+-- What `feed` does: the front of a piece goes after what is held, up to a header, and then up to its message.
 use Rattle.std.proofs.Common.{◌≡◌, ℕ, ◌+◌, ◌-◌, ◌<◌, ◌≤◌, ◌⊎◌, inl, inr, ⊎_elim, true, false, List, [], ◌++◌, length, take, drop, min, Some, None, sym, ap, ◌∙◌, subst, arith, length-append, length-drop, length-take-le, append_assoc, append-nil}
 use Rattle.std.proofs.Math.Seq.{take-add}
 use Rattle.std.proofs.lemmas.Bool.{false≢true}
@@ -148,7 +148,7 @@ module _ (old piece : List ℕ) (count : ℕ) (new : List ℕ) (b : Begins old p
 
 -- ---- the buffer
 
--- what is copied behind the first octets of a buffer
+-- what is copied after the first octets of a buffer
 pub begins : (buffer after piece : List ℕ) (len count : ℕ) → length buffer ≡ 4096 → (len ≤ 4096) × HoldsOne (take len buffer)
     → count ≡ min (19 - len) (length piece) → take (len + count) after ≡ take len buffer ++ take count piece
     → Begins (take len buffer) piece count (take (len + count) after)
@@ -161,7 +161,7 @@ pub record GoesOn (old piece : List ℕ) (count : ℕ) (new : List ℕ) : Type 0
   pub one : HoldsOne new
   pub fits : count + length old ≤ 4096
 
--- the second copy, up to the length that the header tells
+-- the second copy, up to the length in the header
 pub goes_on : (old piece new rest all : List ℕ) (count goal end more : ℕ) → Begins old piece count new → 19 ≤ length new → header_fault new ≡ None
     → goal ≡ length_field new → end ≡ length new → rest ≡ drop count piece → more ≡ min (goal - end) (length rest) → all ≡ new ++ take more rest
     → GoesOn old piece (count + more) all

@@ -19,7 +19,7 @@ pub length-update_octets : (withdrawn : List IpPrefix) (attrs : List ℕ) (nlri 
 unfolding update_octets
 length-update_octets withdrawn attrs nlri = simp length-append (omega arith)
 
--- the pieces of an UPDATE, one behind the other, with the numbers that its header and its sections have
+-- the pieces of an UPDATE, one after the other, with the numbers that its header and its sections have
 pub pieces-update_octets : (withdrawn : List IpPrefix) (attrs : List ℕ) (nlri : List IpPrefix) (total count : ℕ) →
     total ≡ update_length withdrawn attrs nlri → count ≡ length (flat_map prefix_octets withdrawn) →
     replicate 16 255 ++ to_be_bytes w16 total ++ 2 ∷ []

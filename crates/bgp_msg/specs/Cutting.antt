@@ -34,7 +34,7 @@ abbrev pub after_next : List ℕ → List ℕ
 after_next held = elim (message_size held) [ None ↦ held | Some n ↦ drop n held ]
 
 -- What a reader does: `feed` with a piece, of which so many octets were taken; a turn to the next piece, where all of one was taken;
--- and `next`, which handed out a message, told a fault, or gave nothing.
+-- and `next`, which handed out a message, reported a fault, or gave nothing.
 pub data Call : Type 0 where
   fed : List ℕ → ℕ → Call
   turned : Call

@@ -91,7 +91,7 @@ impl Cutter {
     }
 }
 
-/// Copies the front of `piece` behind the first `len` octets of the buffer, until there are `goal` or the piece
+/// Copies the front of `piece` after the first `len` octets of the buffer, until there are `goal` or the piece
 /// ends, and answers how many octets it copied.
 fn fill(buffer: &mut [u8; 4096], len: usize, goal: usize, piece: &[u8]) -> usize
     requires goal_fits { goal ≤ 4096 }

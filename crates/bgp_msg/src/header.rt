@@ -32,7 +32,7 @@ pub const NOTIFICATION: u8 = 3;
 /// The type of a KEEPALIVE.
 pub const KEEPALIVE: u8 = 4;
 
-/// What a header tells of its message.
+/// What a header says of its message.
 #[derive(Clone, Copy, Debug, PartialEq, Eq)]
 pub struct Header {
     /// The type: 1 to 4.
@@ -76,7 +76,7 @@ fn has_marker(octets: &[u8]) -> bool
     marker == MARKER.as_slice()
 }
 
-/// The type and the length that the header tells, not judged yet.
+/// The type and the length in the header, not judged yet.
 fn header_of(octets: &[u8]) -> Header
     requires { 19 ≤ length octets.now }
     ensures { IsHeader octets.now result.kind result.len }

@@ -59,7 +59,7 @@ pub fn written_open_is_read_again()
 {}
 
 /// Where the BGP Identifiers are known that are wanted, the first fault of an OPEN is another identifier exactly where
-/// there is no fault otherwise, or one that comes behind it: those of the parameters. Else it is the fault otherwise.
+/// there is no fault otherwise, or one that comes after it: those of the parameters. Else it is the fault otherwise.
 pub fn identifier_comes_before_parameters()
     ensures { (knows : ℕ → Bool) (as_number : ℕ) (body : List ℕ)
         → open_fault knows as_number body

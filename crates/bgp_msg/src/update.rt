@@ -74,7 +74,7 @@ pub fn check_prefixes(section: &[u8]) -> Result<(), Fault>
     Ok(())
 }
 
-/// The prefix at a place of a section, and the place behind it. None exactly at the section's end. `check_prefixes` took
+/// The prefix at a place of a section, and the place after it. None exactly at the section's end. `check_prefixes` took
 /// the section, and the place is 0 or one that this walk gave: so the prefixes come in the order of the section, each
 /// as often as it is there.
 pub fn next_prefix(section: &[u8], place: usize) -> Option<(Prefix, usize)>
@@ -234,7 +234,7 @@ fn sections(body: &[u8]) -> Option<Update<'_>>
     })
 }
 
-/// The section in front, whose length the first two octets tell, and what follows it.
+/// The section in front, whose length is in the first two octets, and what follows it.
 fn split_section(octets: &[u8]) -> Option<(&[u8], &[u8])>
     ensures found { MatchOption result
         (has_section octets.now ≡ false)

@@ -10,7 +10,7 @@ use Rattle.std.proofs.lemmas.Bool.Decides.{nat_tests}
 use Rattle.case_table.specs.declared.Row.{Row}
 use Rattle.case_table.specs.Rows.{rises_from, codes_rise, row_of}
 
--- behind a row the codes rise from the next number
+-- after a row the codes rise from the next number
 behind : (low : ℕ) (row : Row) (rows : List Row) → rises_from low (row ∷ rows) ≡ true → rises_from (row.code + 1) rows ≡ true
 behind low row rows up = (and_parts (leb low row.code) (rises_from (row.code + 1) rows) up).1
 

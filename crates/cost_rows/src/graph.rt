@@ -72,7 +72,7 @@ impl Graph {
         include(&mut self.edges, edge)
     }
 
-    /// Takes an edge out. False exactly where it isn't there, and the graph then stays as it was. The edges behind it are
+    /// Takes an edge out. False exactly where it isn't there, and the graph then stays as it was. The edges after it are
     /// moved.
     pub fn remove(&mut self, edge: Edge) -> bool
         ensures found { IsTrue result ↔ Contains self.old edge }

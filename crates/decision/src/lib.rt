@@ -17,7 +17,7 @@
 //!
 //! No two routers have one identifier, so that a comparison of peer addresses (g) never comes.
 //!
-//! A list of candidates means the list of what is compared of them. `in_tied` tells exactly what the four filters of
+//! A list of candidates means the list of what is compared of them. `in_tied` is exactly what the four filters of
 //! the definition leave, and `choose` is exactly the definition's choice, for any list and by any costs. Neither takes
 //! memory.
 //!

@@ -1,4 +1,4 @@
--- The octets of a record that is lawful are read as that record.
+-- The octets of a record that is valid are read as that record.
 use Rattle.std.proofs.Common.{◌≡◌, ℕ, ◌+◌, ◌^◌, ◌<◌, Bool, true, false, ltb, leb, List, [], ◌∷◌, ◌++◌, length, drop, Option, Some, None, Result, Ok, refl, sym, ap, subst, ◌∙◌, append_assoc, arith}
 use Rattle.std.specs.Prelude.{unwrap_or, is_none, not, ◌&&◌, ◌||◌, IsTrue, IfSome}
 use Rattle.std.proofs.lemmas.Bool.{leb-false}
@@ -84,7 +84,7 @@ front_again state item more form no_fault =
     (record_front (header_octets item) item.body more refl (sym (length_of_header item form)) ∙ item_of_header item form)
     (behind_record item more form)
 
--- ---- what a lawful record has
+-- ---- what a valid record has
 
 right_of : (a b : Bool) → (a || b) ≡ false → b ≡ false
 right_of true b e = absurd cc
@@ -103,7 +103,7 @@ lawful_length state item e =
     let three = passes_first (ltb 65536 len || not (has_length item.kind len)) why.Length [] two.1 in
     of_not (has_length item.kind len) (right_of (ltb 65536 len) (not (has_length item.kind len)) three.0)
 
--- a record that was taken is the one in front, where the octets are told
+-- a record that was taken is the one in front, where the octets are known
 pub gives_record : (state : FeedState) (item : FeedRecord) (before now : Option (List ℕ)) → IsRecord item → fault_of state item ≡ None → before ≡ in_front (record_octets item) now
     → IfSome before (λ octets. Gives state octets now (Ok item))
 gives_record state item before None form lawful given = subst (λ (o : Option (List ℕ)). IfSome o (λ octets. Gives state octets None (Ok item))) (sym given) tt

@@ -58,7 +58,7 @@ length_front h rest nine =
     ap (λ (xs : List ℕ). from_be_bytes w32 (take 4 xs)) (drop-append-le 5 h rest (omega arith))
     ∙ ap (from_be_bytes w32) (take-append-le 4 (drop 5 h) rest (omega (arith, length-drop 5 h)))
 
--- the checks behind the first two, by what they read
+-- the checks after the first two, by what they read
 abbrev checks_of : FeedState → ℕ → ℕ → Bool → FeedRecord → List (Bool × FeedWhy)
 checks_of state letter len short item =
     (is_none (kind_of letter), why.Kind) ∷ header_checks state (unwrap_or (kind_of letter) kinds.Finish) len ++ (short, why.Truncated) ∷ body_checks state item

@@ -23,13 +23,13 @@ pub record TakesLess (state : FeedState) (before now : Option (List ℕ)) : Type
   pub cut : fault_in_front state taken ≡ Some why.Truncated
   pub given : before ≡ in_front taken now
 
--- what the octets are that were told says why it was refused: a fault is their first, at the number of the record
+-- the octets, where they are known, say why it was refused: a fault is their first, at the number of the record
 abbrev pub Refuses : FeedState → List ℕ → FeedRefusal → Type 0
 Refuses state octets (refusal.Feed number why) = (number ≡ state.number + 1) × (fault_in_front state octets ≡ Some why)
 Refuses state octets refusal.Read = Unit {0}
 Refuses state octets refusal.NoMemory = Unit {0}
 
--- a record is the one in front of the octets that were told, and those behind it are left
+-- a record is the one in front of the octets that are known, and those after it are left
 abbrev pub Gives : FeedState → List ℕ → Option (List ℕ) → Result FeedRecord FeedRefusal → Type 0
 Gives state octets now (Ok item) = (rest : List ℕ) × (front state octets ≡ Ok (item, rest)) × (now ≡ Some rest)
 Gives state octets now (Err refused) = Refuses state octets refused

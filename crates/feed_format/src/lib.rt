@@ -7,7 +7,7 @@
 //! A caller may rely on this: [`Reader::next`] gives exactly the records of the feed that stands in front of the
 //! octets, one at a time, and else exactly its first fault in the order of the checks, at the number of the record; a
 //! read fault only where the source failed. Memory is wanted only for a body after a faultless header, or for the number
-//! of a new connection after a faultless record. It takes no octet behind a record. What [`write_out`] wrote is read again
+//! of a new connection after a faultless record. It takes no octet after a record. What [`write_out`] wrote is read again
 //! as that record.
 //!
 //! ```text

@@ -60,7 +60,7 @@ const MOST_BODY: u32 = 65536;
 /// The records before have fewer octets.
 const MOST_OCTETS: u64 = 1 << 40;
 
-/// Connections that may be begun and not ended.
+/// Connections that may be open at once.
 const MOST_LIVE: usize = 4096;
 
 /// What the nine octets before a body say.
@@ -102,16 +102,16 @@ impl Reader {
     }
 
     /// The next record of the feed, or why there is none. All faults of a feed come from here, but for those that a
-    /// roster tells. Nothing behind the record is taken.
+    /// roster says. Nothing after the record is taken.
     pub fn next<S: Source>(&mut self, source: &mut S) -> Result<Record, FeedRefusal>
         requires { self.old.closed ≡ false }
 
-        // A record is lawful after those before, and stood in front of what is left.
+        // A record is valid after those before, and stood in front of what is left.
         ensures record { IfOk result (λ item. IsRecord item × (fault_of self.old item ≡ None)) }
         ensures octets { IfOk result (λ item. S.left source.old ≡ in_front (record_octets item) (S.left source.new)) }
         ensures after { IfOk result (λ item. self.new ≡ after self.old item) }
 
-        // Where the octets are told, it is the record in front of them, and a fault is their first.
+        // Where the octets are known, it is the record in front of them, and a fault is their first.
         ensures told { IfSome (S.left source.old) (λ octets. Gives self.old octets (S.left source.new) result) }
         ensures too_long { (result ≡ Err (FeedRefusal.Feed (self.old.number + 1) why.TooLong)) ↔ (2 ^ 40 ≤ self.old.octets) }
         ensures read { result ≡ Err FeedRefusal.Read → Rose (S.faults source.old) (S.faults source.new) }
@@ -192,7 +192,7 @@ impl Reader {
         }
     }
 
-    /// The record in front, where it is lawful after those before. Nothing behind it is taken.
+    /// The record in front, where it is valid after those before. Nothing after it is taken.
     fn take<S: Source>(&self, source: &mut S) -> Result<Record, Stop>
         ensures takes { Takes self.now (S.left source.old) (S.left source.new) result }
         ensures too_long { (result ≡ Err (Stop.Fault why.TooLong)) ↔ (2 ^ 40 ≤ self.now.octets) }
@@ -298,7 +298,7 @@ fn refusal(number: u64, stop: Stop) -> FeedRefusal
     }
 }
 
-/// The connections that are begun and not ended after a record.
+/// The connections that are open after a record.
 fn keep_live(live: &mut Vec<u32>, item: &Record) -> Result<(), NoMemory>
     ensures ok { OnOk result (live.new.items ≡ live_after live.old.items item.now) }
     ensures err { OnErr result (live.new.items ≡ live.old.items) }

@@ -6,7 +6,7 @@ ghost use Rattle.feed_format.specs.Numbers.{number_of_fault};
 use rcp_base::{FeedWhy, Prefix, RosterWhy, RouterId};
 use thiserror::Error;
 
-/// Why no walk of routers to the egress is told.
+/// Why no walk of routers to the egress is given.
 #[derive(Clone, Copy, Debug, PartialEq, Eq, Error)]
 pub enum WalkWhy {
     /// The prefix has pending work.
@@ -46,7 +46,7 @@ pub fn number_of_fault(why: FeedWhy) -> u8
     why as u8
 }
 
-/// No walk is told.
+/// No walk is given.
 #[derive(Clone, Copy, Debug, PartialEq, Eq, Error)]
 #[error("{why}")]
 pub struct WalkRefusal {
@@ -84,7 +84,7 @@ pub enum Status {
     /// No memory was found.
     #[error("no memory")]
     NoMemory,
-    /// No walk is told.
+    /// No walk is given.
     #[error("no path: {0}")]
     NoPath(WalkRefusal),
     /// The net failed.

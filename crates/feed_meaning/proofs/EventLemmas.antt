@@ -65,7 +65,7 @@ pub work-good : (ps : List IpPrefix) → AllByRecursion IsGood (work_events ps)
 work-good [] = tt
 work-good (p ∷ ps) = (tt, work-good ps)
 
--- what a session tells is good
+-- what a session reports is good
 event-good : (as_number slot : ℕ) (event : SessionEvent) → IsTold as_number event → IsGood (server_event slot event)
 event-good as_number slot session.Up h = tt
 event-good as_number slot (Announce p route) h =
@@ -118,7 +118,7 @@ up-table domain slot changes server none =
     ap (λ (t : List (ℕ × Table)). get_at same_number slot t) (changes-tables domain slot changes (after domain (Up slot) server) none)
     ∙ get_at-put_at_same same_number number_test slot [] server.tables
 
--- What a slot tells leaves the tables of the others.
+-- What a slot reports leaves the tables of the others.
 other-event : (domain : Domain) (slot s : ℕ) (event : SessionEvent) (server : Server) → eqb s slot ≡ false
     → table_of (after domain (server_event slot event) server) s ≡ table_of server s
 unfolding after

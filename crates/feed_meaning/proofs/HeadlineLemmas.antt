@@ -115,7 +115,7 @@ headline-holds roster items small rises number slot p on not_pending =
       kept : Kept platform (all_output (fresh roster) items) (kept-run (fresh roster) [] 0 items small rises (kept-fresh roster)).0
       kept = (kept-run (fresh roster) [] 0 items small rises (kept-fresh roster)).1
 
-      -- the table of a connected slot is what it was told
+      -- the table of a connected slot is what it was sent
       by_table : Tells (sent_to number (all_output (fresh roster) items)) platform.server (Some slot)
           → get_at same_prefix p (replay (sent_to number (all_output (fresh roster) items))) ≡ offer (domain_of roster) (announced_at platform.server.announcements p) platform.server.edges slot
       by_table tells =

@@ -49,7 +49,7 @@ kept-own platform outs last n s a is goes octets h =
     (λ m slot t is_m seat other. h.seats m n slot t s is_m is other seat)
     (number-begun platform outs last n s h is) h
 
--- ---- a moment
+-- ---- a time
 
 -- each entry of a list is the session of its connection
 abbrev AreThere : Connections → Connections → Type 0
@@ -172,7 +172,7 @@ module _ (platform : Platform) (outs : List OutRecord) (last n : ℕ) (s : Sessi
       by_end None e = e
       by_end (Some ending) e = let shut : is_closed first.after.phase ≡ true = goes.ends ∙ ap is_some e in absurd (both_ways (is_closed first.after.phase) still shut)
 
-    -- where a claim is made no slot was connected, and nothing was told
+    -- where a claim is made no slot was connected, and nothing was reported
     quiet-shape : (was : Option ℕ) → Shape was None first.does.events → (was ≡ None) × (first.does.events ≡ [])
     quiet-shape None shape = (refl, shape)
     quiet-shape (Some old) shape = absurd shape
@@ -336,7 +336,7 @@ kept-later platform outs last later more h = record {
   unsent = λ n above. h.unsent n (omega (arith, more, above));
 }
 
--- the moment is of no account
+-- the time is of no account
 kept-at : (platform : Platform) (outs : List OutRecord) (last now : ℕ) → Kept platform outs last → Kept (record platform { moment = now }) outs last
 kept-at platform outs last now h = record {
   settled = h.settled;

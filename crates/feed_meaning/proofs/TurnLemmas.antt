@@ -98,7 +98,7 @@ abbrev pub Tells : List ℕ → Server → Option ℕ → Type 0
 Tells octets server None = Replays octets []
 Tells octets server (Some slot) = (table : Table) × (table_of server slot ≡ Some table) × Replays octets table
 
--- No number above the last was begun.
+-- No connection above the last was opened.
 pub record Kept (platform : Platform) (outs : List OutRecord) (last : ℕ) : Type 0 where
   pub settled : Settled (domain_of platform.roster) platform.server
   pub rising : IsRising platform.server.pending
@@ -204,7 +204,7 @@ module _ (platform : Platform) (outs : List OutRecord) (last : ℕ) (phase : Pha
   tells-other n t None other is on tells = rw (sent n other) tells
   tells-other n t (Some s) other is on tells = (tells.0, table-stays n s t other is on ∙ tells.1, rw (sent n other) tells.2)
 
-  -- what was sent on the connection of the turn is told besides
+  -- what was sent on the connection of the turn is given besides
   told-besides : (table : Table) → turn.answer.does.closed ≡ None → Replays (sent_to turn.number outs) table → Replays (sent_to turn.number (outs ++ turn_output turn)) table
   told-besides table is_open replays =
       rw (sent_to-append turn.number outs (turn_output turn), sent_to-turn turn) (Replays-quiet (sent_to turn.number outs) turn.answer.does.sent table (is_turn.quiet is_open) replays)

@@ -115,13 +115,13 @@ module _ (earlier : FeedState) where
 
   -- the first record is a roster
   first_is : (item : FeedRecord) → fault_of (before_next_feed earlier) item ≡ None → is_roster item.kind ≡ true
-  first_is item lawful =
+  first_is item valid =
       not-false (is_roster item.kind) (passes_first (not (is_roster item.kind)) why.NoRoster
-      (((before_next_feed earlier).started && is_roster item.kind, why.Twice) ∷ (ltb 65536 (length item.body) || not (has_length item.kind (length item.body)), why.Length) ∷ []) (lawful_parts (before_next_feed earlier) item lawful).header).0
+      (((before_next_feed earlier).started && is_roster item.kind, why.Twice) ∷ (ltb 65536 (length item.body) || not (has_length item.kind (length item.body)), why.Length) ∷ []) (lawful_parts (before_next_feed earlier) item valid).header).0
 
   -- and not the last one
   pub first_further : (item : FeedRecord) → fault_of (before_next_feed earlier) item ≡ None → is_finish item.kind ≡ false
-  first_further item lawful = no_finish item.kind (first_is item lawful)
+  first_further item valid = no_finish item.kind (first_is item valid)
 
   pub first-refused : (refused : FeedRefusal) (octets : List ℕ) (now taken : Option (List ℕ)) → Refuses (before_next_feed earlier) octets refused → TakesPart (Some octets) now
       → (refused ≡ refusal.Read → TakesLess (before_next_feed earlier) (Some octets) now) → (refused ≡ refusal.NoMemory → WantsMemory (before_next_feed earlier) (Some octets) now)
@@ -188,7 +188,7 @@ module _ (earlier : FeedState) where
   -- ---- a record was given
 
   module _ (octets : List ℕ) (item : FeedRecord) (left now : Option (List ℕ)) (told : left ≡ Some octets) (given : left ≡ in_front (record_octets item) now)
-      (form : IsRecord item) (lawful : fault_of (before_next_feed earlier) item ≡ None) where
+      (form : IsRecord item) (valid : fault_of (before_next_feed earlier) item ≡ None) where
     front : (rest : List ℕ) × (now ≡ Some rest) × (octets ≡ record_octets item ++ rest)
     front = told_front (record_octets item) octets now (sym told ∙ given)
 
@@ -197,7 +197,7 @@ module _ (earlier : FeedState) where
 
     meaning-more : (more : List ℕ) → meaning_after earlier (record_octets item ++ more)
         ≡ with_roster roster_fault (with_first item (feed_of (after (before_next_feed earlier) item) more)) (earlier.number + 1) (feed_of (after (before_next_feed earlier) item) more).items (roster_of item.body)
-    meaning-more more = ap (λ (f : Feed). meaning_of roster_fault (earlier.number + 1) f f.items) (again-more (before_next_feed earlier) item form lawful more (no_finish item.kind (first_is item lawful)))
+    meaning-more more = ap (λ (f : Feed). meaning_of roster_fault (earlier.number + 1) f f.items) (again-more (before_next_feed earlier) item form valid more (no_finish item.kind (first_is item valid)))
 
     none_with : (found : Result RosterOf FaultyLine) (feed : Feed) (items : List FeedRecord) → items ≡ [] → [] ≡ (with_roster roster_fault feed (earlier.number + 1) items found).items
     none_with (Ok roster) feed items none = rw none refl
@@ -249,7 +249,7 @@ module _ (earlier : FeedState) where
 
       -- no connection was opened
       no_last : (after (before_next_feed earlier) item).last ≡ 0
-      no_last = let other = no_connection item.kind (first_is item lawful) in rw other refl
+      no_last = let other = no_connection item.kind (first_is item valid) in rw other refl
 
       known_with : (found : Option RosterOf) → found ≡ Some roster → (items : List FeedRecord) → AreRead (fresh roster) (after (before_next_feed earlier) item).last items → AreReadWith found items
       known_with found is items h = rw is (subst (λ (last : ℕ). AreRead (fresh roster) last items) no_last h)
@@ -274,6 +274,6 @@ module _ (earlier : FeedState) where
 
   -- what the reader notes of the first record
   pub noted_first : (item : FeedRecord) → fault_of (before_next_feed earlier) item ≡ None → ((after (before_next_feed earlier) item).closed ≡ false) × (0 ≡ (after (before_next_feed earlier) item).moment)
-  noted_first item lawful =
-      let time = no_time item.kind (first_is item lawful) in
-      (no_finish item.kind (first_is item lawful), rw time refl)
+  noted_first item valid =
+      let time = no_time item.kind (first_is item valid) in
+      (no_finish item.kind (first_is item valid), rw time refl)

@@ -134,12 +134,12 @@ feed-empty state = feed-short state [] (omega arith)
 
 -- ---- a record that was read
 
-module _ (state : FeedState) (item : FeedRecord) (form : IsRecord item) (lawful : fault_of state item ≡ None) (more : List ℕ) where
+module _ (state : FeedState) (item : FeedRecord) (form : IsRecord item) (valid : fault_of state item ≡ None) (more : List ℕ) where
   pub again-last : is_finish item.kind ≡ true → feed_of state (record_octets item ++ more) ≡ record { items = item ∷ []; state = after state item; fault = None; left = more }
-  again-last last = feed-last state (record_octets item ++ more) item more (front_again state item more form lawful) last
+  again-last last = feed-last state (record_octets item ++ more) item more (front_again state item more form valid) last
 
   pub again-more : is_finish item.kind ≡ false → feed_of state (record_octets item ++ more) ≡ with_first item (feed_of (after state item) more)
-  again-more further = feed-more state (record_octets item ++ more) item more (front_again state item more form lawful) further
+  again-more further = feed-more state (record_octets item ++ more) item more (front_again state item more form valid) further
 
   -- it is the first of the feed
   pub again-first : (items : List FeedRecord) × ((feed_of state (record_octets item ++ more)).items ≡ item ∷ items)
@@ -148,7 +148,7 @@ module _ (state : FeedState) (item : FeedRecord) (form : IsRecord item) (lawful 
     | inr further ↦ ((feed_of (after state item) more).items, ap (λ (f : Feed). f.items) (again-more further))
   ]
 
--- where the octets are told and a piece of them was read: what is left, and that the piece stands in front of it
+-- where the octets are known and a piece of them was read: what is left, and that the piece stands in front of it
 pub told_front : (piece octets : List ℕ) (now : Option (List ℕ)) → Some octets ≡ in_front piece now → (rest : List ℕ) × (now ≡ Some rest) × (octets ≡ piece ++ rest)
 told_front piece octets None e = absurd cc
 told_front piece octets (Some rest) e = (rest, refl, cc)

@@ -6,3 +6,4 @@ pub mod StepLemmas
 pub mod BeginLemmas
 pub mod WholeLemmas
 pub mod FirstLemmas
+mod DrainLemmas

@@ -71,9 +71,9 @@ none_read platform last = record { form = tt; rising = tt; framed = tt }
 more_read : (platform : Platform) (state : FeedState) (item : FeedRecord) → IsRecord item → fault_of state item ≡ None → AllByRecursion IsFramed (act platform item).out
     → (items : List FeedRecord) → AreRead (act platform item).after (after state item).last items → AreRead platform state.last (item ∷ items)
 unfolding all_output
-more_read platform state item form lawful framed items h = record {
+more_read platform state item form valid framed items h = record {
   form = (form, h.form);
-  rising = (new_number state item (lawful_parts state item lawful).body, h.rising);
+  rising = (new_number state item (lawful_parts state item valid).body, h.rising);
   framed = all_both IsFramed (act platform item).out (all_output (act platform item).after items) framed h.framed;
 }
 
@@ -104,9 +104,9 @@ module _ (platform : Platform) (state : FeedState) where
   -- a record that begins a connection is the only one of its octets
   one_or_none : (item : FeedRecord) → IsRecord item → fault_of state item ≡ None → is_finish item.kind ≡ false
       → ([] ≡ items_from platform state (record_octets item)) ⊎ IsAllButLast [] (items_from platform state (record_octets item))
-  one_or_none item form lawful further =
+  one_or_none item form valid further =
       let alone = ap (λ (o : List ℕ). (feed_of state o).items) (sym (append-nil (record_octets item)))
-      ∙ ap (λ (f : Feed). f.items) (again-more state item form lawful [] further) ∙ ap (λ (l : List FeedRecord). item ∷ l) (feed-empty (after state item)) in
+      ∙ ap (λ (f : Feed). f.items) (again-more state item form valid [] further) ∙ ap (λ (l : List FeedRecord). item ∷ l) (feed-empty (after state item)) in
       elim (cases_Bool (is_some (roster_fault platform.roster item))) [
         | inl e ↦ inl (sym (ap (read_of (roster_fault platform.roster)) alone ∙ rw e refl))
         | inr e ↦ inr (record { last = item; parts = ap (read_of (roster_fault platform.roster)) alone ∙ rw e refl })
@@ -221,7 +221,7 @@ framed_size item form =
     omega (arith, size, says, length-append (header_octets item) item.body)
 
 module _ (platform : Platform) (state : FeedState) (octets : List ℕ) (item : FeedRecord) (left now : Option (List ℕ))
-    (told : left ≡ Some octets) (given : left ≡ in_front (record_octets item) now) (form : IsRecord item) (lawful : fault_of state item ≡ None) where
+    (told : left ≡ Some octets) (given : left ≡ in_front (record_octets item) now) (form : IsRecord item) (valid : fault_of state item ≡ None) where
   front : (rest : List ℕ) × (now ≡ Some rest) × (octets ≡ record_octets item ++ rest)
   front = told_front (record_octets item) octets now (sym told ∙ given)
 
@@ -231,7 +231,7 @@ module _ (platform : Platform) (state : FeedState) (octets : List ℕ) (item : F
   pub faulty-ends : (number : ℕ) (why : FeedWhy) (taken : Option (List ℕ)) → number ≡ state.number + 1 → roster_fault platform.roster item ≡ Some why
       → AnswersFrom platform state (status.Feed number why) octets now taken taken
   faulty-ends number why taken count faulty =
-      let first = again-first state item form lawful front.0 in
+      let first = again-first state item form valid front.0 in
       let items_are : (feed_of state octets).items ≡ item ∷ first.0 = ap (λ (o : List ℕ). (feed_of state o).items) front.2 ∙ first.1 in
       record {
         reads = record {
@@ -260,7 +260,7 @@ module _ (platform : Platform) (state : FeedState) (octets : List ℕ) (item : F
 
     pub finish-ends : (taken : Option (List ℕ)) → is_finish item.kind ≡ true → AnswersFrom platform state Done octets now taken taken
     finish-ends taken last =
-        let feed_is = ap (feed_of state) front.2 ∙ again-last state item form lawful front.0 last in
+        let feed_is = ap (feed_of state) front.2 ∙ again-last state item form valid front.0 last in
         let items_are = ap (λ (f : Feed). read_of (roster_fault platform.roster) f.items) feed_is ∙ read-cons [] in
         let silent : (act platform item).out ≡ [] = output-finish platform item.kind item.source item.body last in
         let nothing : outputs_from platform (item ∷ []) ≡ [] = outputs-cons platform item []
@@ -281,19 +281,19 @@ module _ (platform : Platform) (state : FeedState) (octets : List ℕ) (item : F
             partly = refl;
             wrote = sym (rw nothing (behind-nil taken));
           };
-          known = more_read platform state item form lawful (subst (AllByRecursion IsFramed) (sym silent) tt) [] (none_read (act platform item).after (after state item).last);
+          known = more_read platform state item form valid (subst (AllByRecursion IsFramed) (sym silent) tt) [] (none_read (act platform item).after (after state item).last);
         }
 
     module _ (further : is_finish item.kind ≡ false) where
       items-more : (more : List ℕ) → items_from platform state (record_octets item ++ more) ≡ item ∷ items_from (act platform item).after (after state item) more
       items-more more =
-          ap (λ (f : Feed). read_of (roster_fault platform.roster) f.items) (again-more state item form lawful more further)
+          ap (λ (f : Feed). read_of (roster_fault platform.roster) f.items) (again-more state item form valid more further)
           ∙ read-cons (feed_of (after state item) more).items
           ∙ ap (λ (r : RosterOf). item ∷ read_of (roster_fault r) (feed_of (after state item) more).items) (sym (act-roster platform item))
 
       end-later : (more : List ℕ) → end_from platform state (record_octets item ++ more) ≡ end_from (act platform item).after (after state item) more
       end-later more =
-          let feed_is = again-more state item form lawful more further in
+          let feed_is = again-more state item form valid more further in
           ap (λ (f : Feed). end_of (roster_fault platform.roster) (state.number + 1) f.items f.fault) feed_is
           ∙ end-more platform.roster (state.number + 1) item (feed_of (after state item) more).items (feed_of (after state item) more).fault known
           ∙ ap (λ (r : RosterOf). end_of (roster_fault r) (state.number + 1 + 1) (feed_of (after state item) more).items (feed_of (after state item) more).fault) (sym (act-roster platform item))
@@ -365,7 +365,7 @@ module _ (platform : Platform) (state : FeedState) (octets : List ℕ) (item : F
             (λ o. (feed_of state o).left) (λ o. (feed_of (after state item) o).left)
             (outputs_from platform) (outputs_from (act platform item).after) (AreRead platform state.last) (AreRead (act platform item).after (after state item).last)
             state.number item form (item ∷ []) (put_out platform item)
-            items-more end-later (λ more. ap (λ (f : Feed). f.left) (again-more state item form lawful more further))
-            (outputs-cons platform item) (more_read platform state item form lawful framed)
+            items-more end-later (λ more. ap (λ (f : Feed). f.left) (again-more state item form valid more further))
+            (outputs-cons platform item) (more_read platform state item form valid framed)
             octets front.0 front.2 before between wrote answer later final h,
       )

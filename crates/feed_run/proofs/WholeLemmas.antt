@@ -17,8 +17,8 @@ use Rattle.platform_laws.specs.Platforms.{IsSeen}
 use Rattle.platform_core.specs.States.{StateOf}
 use Rattle.feed_format.specs.declared.status.Status.{Status}
 use Rattle.feed_run.specs.NextFeeds.{meaning_after, end_after, left_after}
-use Rattle.feed_run.specs.Going.{ReadsSo, ReadsAfter, end_from, HasBegun, Acts, Finishes}
-use Rattle.feed_run.specs.Whole.{Pass, with_all, IsReached, IsWhole}
+use Rattle.feed_run.specs.Going.{ReadsSo, ReadsAfter, end_from, Opens, Acts, Finishes}
+use Rattle.feed_run.specs.Whole.{Pass, with_all, AreFeed, IsReached, IsWhole}
 use Rattle.feed_run.specs.declared.records.FeedRun.{FeedRun}
 use Rattle.feed_run.proofs.FeedLemmas.{again-last, again-more, told_front}
 use Rattle.feed_run.proofs.AnswerLemmas.{all_both, reads_on}
@@ -55,6 +55,20 @@ act-finish platform kind.Time source body e = absurd cc
 act-finish platform kind.Slice source body e = absurd cc
 act-finish platform kind.Drain source body e = absurd cc
 
+-- and puts nothing out
+pub finish-out : (platform : Platform) (k : Kind) (source : ℕ) (body : List ℕ) → is_finish k ≡ true → (act platform (record { kind = k; source = source; body = body })).out ≡ []
+unfolding act
+finish-out platform kind.Finish source body e = refl
+finish-out platform kind.Roster source body e = absurd cc
+finish-out platform kind.Ready source body e = absurd cc
+finish-out platform kind.Raw source body e = absurd cc
+finish-out platform kind.Octets source body e = absurd cc
+finish-out platform kind.Closed source body e = absurd cc
+finish-out platform kind.Links source body e = absurd cc
+finish-out platform kind.Time source body e = absurd cc
+finish-out platform kind.Slice source body e = absurd cc
+finish-out platform kind.Drain source body e = absurd cc
+
 finish-passes : (roster : RosterOf) (body : List ℕ) (k : Kind) → is_finish k ≡ true → kind_fault roster body k ≡ None
 finish-passes roster body kind.Finish e = refl
 finish-passes roster body kind.Roster e = refl
@@ -90,19 +104,17 @@ all-more items item feed = ap (λ (l : List FeedRecord). record feed { items = l
 
 -- ---- its beginning
 
-pub reached-first : (earlier : FeedState) (run : FeedRun) (before now : Option (List ℕ)) → HasBegun earlier run before now → IsReached earlier run before now
+pub reached-first : (earlier : FeedState) (run : FeedRun) (before now : Option (List ℕ)) (h : Opens earlier run before now) → IsReached earlier run h.roster [] before now
 unfolding platform_after
 reached-first earlier run before now h = record {
   octets = record_octets h.first;
   given = h.given;
   first = h.first;
-  items = [];
   parts = sym (append-nil (record_octets h.first));
   form = (h.form, tt);
   count = omega (arith, ap (λ (s : FeedState). s.number) h.noted);
-  feed = λ more. again-more (before_next_feed earlier) h.first h.form h.lawful more (first_further earlier h.first h.lawful)
+  feed = λ more. again-more (before_next_feed earlier) h.first h.form h.valid more (first_further earlier h.first h.valid)
       ∙ ap (λ (s : FeedState). with_first h.first (feed_of s more)) (sym h.noted);
-  roster = h.roster;
   is_read = h.is_read;
   passed = tt;
   seen = h.seen;
@@ -110,43 +122,42 @@ reached-first earlier run before now h = record {
 
 -- ---- one record more
 
-module _ (earlier : FeedState) (old new : FeedRun) (before between now : Option (List ℕ)) (reached : IsReached earlier old before between) where
-  octets_on : (item : FeedRecord) → between ≡ in_front (record_octets item) now → before ≡ in_front (reached.octets ++ record_octets item) now
+module _ (earlier : FeedState) (old new : FeedRun) (roster : RosterOf) (items : List FeedRecord) (before between now : Option (List ℕ))
+    (reached : IsReached earlier old roster items before between) where
+  pub octets_on : (item : FeedRecord) → between ≡ in_front (record_octets item) now → before ≡ in_front (reached.octets ++ record_octets item) now
   octets_on item given = reached.given ∙ ap (in_front reached.octets) given ∙ in_front-append reached.octets (record_octets item) now
 
-  parts_on : (item : FeedRecord) → reached.octets ++ record_octets item ≡ flat_map record_octets (reached.first ∷ (reached.items ++ item ∷ []))
+  parts_on : (item : FeedRecord) → reached.octets ++ record_octets item ≡ flat_map record_octets (reached.first ∷ (items ++ item ∷ []))
   parts_on item =
-      let records = reached.first ∷ reached.items in
+      let records = reached.first ∷ items in
       ap (λ (l : List ℕ). l ++ record_octets item) reached.parts
-      ∙ ap (λ (l : List ℕ). flat_map record_octets (reached.first ∷ reached.items) ++ l) (sym (append-nil (record_octets item)))
-      ∙ sym (flat_map-append record_octets (reached.first ∷ reached.items) (item ∷ []))
+      ∙ ap (λ (l : List ℕ). flat_map record_octets (reached.first ∷ items) ++ l) (sym (append-nil (record_octets item)))
+      ∙ sym (flat_map-append record_octets (reached.first ∷ items) (item ∷ []))
 
-  form_on : (item : FeedRecord) → IsRecord item → AllByRecursion IsRecord (reached.first ∷ (reached.items ++ item ∷ []))
-  form_on item form = all_both IsRecord (reached.first ∷ reached.items) (item ∷ []) reached.form (form, tt)
+  form_on : (item : FeedRecord) → IsRecord item → AllByRecursion IsRecord (reached.first ∷ (items ++ item ∷ []))
+  form_on item form = all_both IsRecord (reached.first ∷ items) (item ∷ []) reached.form (form, tt)
 
-  pub reached-more : (outs : List OutRecord) → Acts old new outs between now → IsReached earlier new before now
+  pub reached-more : (outs : List OutRecord) (a : Acts old new outs between now) → IsReached earlier new roster (items ++ a.item ∷ []) before now
   reached-more outs a =
-      let defined = platform_after (fresh reached.roster) reached.items in
+      let defined = platform_after (fresh roster) items in
       let acted = a.acted defined reached.seen in
-      let roster : defined.roster ≡ reached.roster = roster-after (fresh reached.roster) reached.items in
+      let same : defined.roster ≡ roster = roster-after (fresh roster) items in
       record {
         octets = reached.octets ++ record_octets a.item;
         given = octets_on a.item a.given;
         first = reached.first;
-        items = reached.items ++ a.item ∷ [];
         parts = parts_on a.item;
         form = form_on a.item a.form;
-        count = omega (arith, reached.count, ap (λ (s : FeedState). s.number) a.noted, length-append reached.items (a.item ∷ []));
+        count = omega (arith, reached.count, ap (λ (s : FeedState). s.number) a.noted, length-append items (a.item ∷ []));
         feed = λ more.
             ap (feed_of (before_next_feed earlier)) (append_assoc reached.octets (record_octets a.item) more)
             ∙ reached.feed (record_octets a.item ++ more)
-            ∙ ap (with_all (reached.first ∷ reached.items)) (again-more old.reader a.item a.form a.lawful more a.further ∙ ap (λ (s : FeedState). with_first a.item (feed_of s more)) (sym a.noted))
-            ∙ all-more (reached.first ∷ reached.items) a.item (feed_of new.reader more);
-        roster = reached.roster;
+            ∙ ap (with_all (reached.first ∷ items)) (again-more old.reader a.item a.form a.valid more a.further ∙ ap (λ (s : FeedState). with_first a.item (feed_of s more)) (sym a.noted))
+            ∙ all-more (reached.first ∷ items) a.item (feed_of new.reader more);
         is_read = reached.is_read;
-        passed = all_both (λ item. roster_fault reached.roster item ≡ None) reached.items (a.item ∷ []) reached.passed
-            (ap (λ (r : RosterOf). roster_fault r a.item) (sym roster) ∙ acted.2, tt);
-        seen = subst (λ (p : Platform). IsSeen p new.platform.seen) (sym (platform-more (fresh reached.roster) reached.items a.item)) acted.0;
+        passed = all_both (λ item. roster_fault roster item ≡ None) items (a.item ∷ []) reached.passed
+            (ap (λ (r : RosterOf). roster_fault r a.item) (sym same) ∙ acted.2, tt);
+        seen = subst (λ (p : Platform). IsSeen p new.platform.seen) (sym (platform-more (fresh roster) items a.item)) acted.0;
       }
 
 -- ---- what all octets come to
@@ -167,30 +178,30 @@ one_more roster items number item more state faultless =
     let end : end_of (roster_fault roster) number (item ∷ []) None ≡ Finished = rw (end_of, faultless) refl in
     λ i. record { roster = Some roster; items = items ++ one i; end = end i; left = more }
 
-module _ (earlier : FeedState) (run : FeedRun) (before now : Option (List ℕ)) (reached : IsReached earlier run before now) where
-  meaning-reached : (more : List ℕ) → meaning_after earlier (reached.octets ++ more) ≡ ended reached.roster reached.items (run.reader.number + 1) (feed_of run.reader more)
+module _ (earlier : FeedState) (run : FeedRun) (roster : RosterOf) (items : List FeedRecord) (before now : Option (List ℕ)) (reached : IsReached earlier run roster items before now) where
+  meaning-reached : (more : List ℕ) → meaning_after earlier (reached.octets ++ more) ≡ ended roster items (run.reader.number + 1) (feed_of run.reader more)
   meaning-reached more =
       let rest = feed_of run.reader more in
-      let feed = with_all (reached.first ∷ reached.items) (feed_of run.reader more) in
+      let feed = with_all (reached.first ∷ items) (feed_of run.reader more) in
       let number = earlier.number + 1 in
       ap (λ (f : Feed). meaning_of roster_fault (earlier.number + 1) f f.items) (reached.feed more)
-      ∙ ap (with_roster roster_fault feed (earlier.number + 1) (reached.items ++ rest.items)) reached.is_read
+      ∙ ap (with_roster roster_fault feed (earlier.number + 1) (items ++ rest.items)) reached.is_read
       ∙ ap (λ (l : List FeedRecord). record {
-        roster = Some reached.roster;
+        roster = Some roster;
         items = l;
-        end = end_of (roster_fault reached.roster) (number + 1) (reached.items ++ rest.items) rest.fault;
+        end = end_of (roster_fault roster) (number + 1) (items ++ rest.items) rest.fault;
         left = rest.left;
-      }) (read-passed (roster_fault reached.roster) reached.items rest.items reached.passed)
+      }) (read-passed (roster_fault roster) items rest.items reached.passed)
       ∙ ap (λ (e : FeedEnd). record {
-        roster = Some reached.roster;
-        items = reached.items ++ read_of (roster_fault reached.roster) rest.items;
+        roster = Some roster;
+        items = items ++ read_of (roster_fault roster) rest.items;
         end = e;
         left = rest.left;
-      }) (end-passed (roster_fault reached.roster) (number + 1) (run.reader.number + 1) reached.items rest.items rest.fault (omega (arith, reached.count)) reached.passed)
+      }) (end-passed (roster_fault roster) (number + 1) (run.reader.number + 1) items rest.items rest.fault (omega (arith, reached.count)) reached.passed)
 
   -- what is said of the octets that are left is said of all
   pub reads-reached : (octets : List ℕ) → before ≡ Some octets
-      → (rest : List ℕ) × (now ≡ Some rest) × ((platform : Platform) (status : Status) (later : Option (List ℕ)) → platform.roster ≡ reached.roster
+      → (rest : List ℕ) × (now ≡ Some rest) × ((platform : Platform) (status : Status) (later : Option (List ℕ)) → platform.roster ≡ roster
       → ReadsSo (end_from platform run.reader) (λ o. (feed_of run.reader o).left) run.reader.number status rest later → ReadsAfter earlier status octets later)
   reads-reached octets told =
       let front = told_front reached.octets octets now (sym told ∙ reached.given) in (
@@ -198,7 +209,7 @@ module _ (earlier : FeedState) (run : FeedRun) (before now : Option (List ℕ)) 
         front.1,
         λ platform status later same h.
             reads_on (end_after earlier) (end_from platform run.reader) (left_after earlier) (λ o. (feed_of run.reader o).left)
-            (reached.first ∷ reached.items) reached.form reached.octets reached.parts earlier.number run.reader.number reached.count
+            (reached.first ∷ items) reached.form reached.octets reached.parts earlier.number run.reader.number reached.count
             (λ more. ap (λ (m : FeedMeaning). m.end) (meaning-reached more)
             ∙ ap (λ (r : RosterOf). end_of (roster_fault r) (run.reader.number + 1) (feed_of run.reader more).items (feed_of run.reader more).fault) (sym same))
             (λ more. ap (λ (m : FeedMeaning). m.left) (meaning-reached more))
@@ -208,38 +219,41 @@ module _ (earlier : FeedState) (run : FeedRun) (before now : Option (List ℕ)) 
 -- ---- its end
 
 -- the octets of a feed whose last record is a Z
-pub whole-feed : (earlier : FeedState) (old new : FeedRun) (before between now : Option (List ℕ)) → IsReached earlier old before between → Finishes old new between now
-    → IsWhole earlier new before now
-whole-feed earlier old new before between now reached z =
-    let records = reached.first ∷ reached.items in
-    let all = reached.items ++ z.item ∷ [] in
-    let defined = platform_after (fresh reached.roster) reached.items in
-    let octets = reached.octets ++ record_octets z.item in
+pub is-feed : (earlier : FeedState) (old new : FeedRun) (roster : RosterOf) (items : List FeedRecord) (before between now : Option (List ℕ))
+    (reached : IsReached earlier old roster items before between) (z : Finishes old new between now)
+    → AreFeed earlier (reached.octets ++ record_octets z.item) roster (items ++ z.item ∷ []) new.reader
+is-feed earlier old new roster items before between now reached z =
     let later : new.reader ≡ after old.reader z.item = z.noted in
     let last : (more : List ℕ) → feed_of old.reader (record_octets z.item ++ more) ≡ record { items = z.item ∷ []; state = new.reader; fault = None; left = more } =
-    λ more. again-last old.reader z.item z.form z.lawful more z.last ∙ ap (λ (s : FeedState). record { items = z.item ∷ []; state = s; fault = None; left = more }) (sym later) in
-    let faultless : roster_fault reached.roster z.item ≡ None = finish-faultless reached.roster z.item z.last in
+    λ more. again-last old.reader z.item z.form z.valid more z.last ∙ ap (λ (s : FeedState). record { items = z.item ∷ []; state = s; fault = None; left = more }) (sym later) in
+    let faultless : roster_fault roster z.item ≡ None = finish-faultless roster z.item z.last in
     record {
-      octets = octets;
-      given = octets_on earlier old new before between now reached z.item z.given;
-      roster = reached.roster;
+      records = reached.first ∷ (items ++ z.item ∷ []);
+      parts = parts_on earlier old new roster items before between now reached z.item;
+      form = form_on earlier old new roster items before between now reached z.item z.form;
+      count = omega (arith, reached.count, ap (λ (s : FeedState). s.number) later, length-append items (z.item ∷ []));
+      state = λ more.
+          ap (λ (o : List ℕ). (feed_of (before_next_feed earlier) o).state) (append_assoc reached.octets (record_octets z.item) more)
+          ∙ ap (λ (f : Feed). f.state) (reached.feed (record_octets z.item ++ more) ∙ ap (with_all (reached.first ∷ items)) (last more));
+      meaning = λ more.
+          ap (meaning_after earlier) (append_assoc reached.octets (record_octets z.item) more)
+          ∙ meaning-reached earlier old roster items before between reached (record_octets z.item ++ more)
+          ∙ ap (λ (f : Feed). ended roster items (old.reader.number + 1) f) (last more)
+          ∙ one_more roster items (old.reader.number + 1) z.item more new.reader faultless;
+    }
+
+pub whole-feed : (earlier : FeedState) (old new : FeedRun) (roster : RosterOf) (items : List FeedRecord) (before between now : Option (List ℕ))
+    → IsReached earlier old roster items before between → Finishes old new between now → IsWhole earlier new before now
+whole-feed earlier old new roster items before between now reached z =
+    let all = items ++ z.item ∷ [] in
+    let defined = platform_after (fresh roster) items in
+    let same : platform_after (fresh roster) all ≡ defined = platform-more (fresh roster) items z.item ∙ act-finish defined z.item.kind z.item.source z.item.body z.last in
+    let seen_old : IsSeen (platform_after (fresh roster) all) old.platform.seen = subst (λ (p : Platform). IsSeen p old.platform.seen) (sym same) reached.seen in
+    record {
+      octets = reached.octets ++ record_octets z.item;
+      given = octets_on earlier old new roster items before between now reached z.item z.given;
+      roster = roster;
       items = all;
-      is_feed = record {
-        records = reached.first ∷ all;
-        parts = parts_on earlier old new before between now reached z.item;
-        form = form_on earlier old new before between now reached z.item z.form;
-        count = omega (arith, reached.count, ap (λ (s : FeedState). s.number) later, length-append reached.items (z.item ∷ []));
-        state = λ more.
-            ap (λ (o : List ℕ). (feed_of (before_next_feed earlier) o).state) (append_assoc reached.octets (record_octets z.item) more)
-            ∙ ap (λ (f : Feed). f.state) (reached.feed (record_octets z.item ++ more) ∙ ap (with_all (reached.first ∷ reached.items)) (last more));
-        meaning = λ more.
-            ap (meaning_after earlier) (append_assoc reached.octets (record_octets z.item) more)
-            ∙ meaning-reached earlier old before between reached (record_octets z.item ++ more)
-            ∙ ap (λ (f : Feed). ended reached.roster reached.items (old.reader.number + 1) f) (last more)
-            ∙ one_more reached.roster reached.items (old.reader.number + 1) z.item more new.reader faultless;
-      };
-      seen =
-          let same : platform_after (fresh reached.roster) all ≡ defined = platform-more (fresh reached.roster) reached.items z.item ∙ act-finish defined z.item.kind z.item.source z.item.body z.last in
-          let seen_old : IsSeen (platform_after (fresh reached.roster) all) old.platform.seen = subst (λ (p : Platform). IsSeen p old.platform.seen) (sym same) reached.seen in
-          subst (λ (s : StateOf). IsSeen (platform_after (fresh reached.roster) all) s.seen) (sym z.same) seen_old;
+      is_feed = is-feed earlier old new roster items before between now reached z;
+      seen = subst (λ (s : StateOf). IsSeen (platform_after (fresh roster) all) s.seen) (sym z.same) seen_old;
     }

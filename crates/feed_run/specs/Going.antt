@@ -100,11 +100,11 @@ pub record Begins (earlier : FeedState) (octets : List ℕ) (run : FeedRun) (ros
       → AnswersAfter earlier status octets later before after
 
 -- the first record of a feed that follows others was a roster
-pub record HasBegun (earlier : FeedState) (run : FeedRun) (before now : Option (List ℕ)) : Type 0 where
+pub record Opens (earlier : FeedState) (run : FeedRun) (before now : Option (List ℕ)) : Type 0 where
   pub first : FeedRecord
   pub given : before ≡ in_front (record_octets first) now
   pub form : IsRecord first
-  pub lawful : fault_of (before_next_feed earlier) first ≡ None
+  pub valid : fault_of (before_next_feed earlier) first ≡ None
   pub noted : run.reader ≡ after (before_next_feed earlier) first
   pub roster : RosterOf
   pub is_read : roster_of first.body ≡ Ok roster
@@ -116,7 +116,7 @@ pub record Acts (old new : FeedRun) (outs : List OutRecord) (before now : Option
   pub item : FeedRecord
   pub given : before ≡ in_front (record_octets item) now
   pub form : IsRecord item
-  pub lawful : fault_of old.reader item ≡ None
+  pub valid : fault_of old.reader item ≡ None
   pub further : is_finish item.kind ≡ false
   pub noted : new.reader ≡ after old.reader item
   pub acted : (platform : Platform) → IsSeen platform old.platform.seen
@@ -127,7 +127,7 @@ pub record Finishes (old new : FeedRun) (before now : Option (List ℕ)) : Type 
   pub item : FeedRecord
   pub given : before ≡ in_front (record_octets item) now
   pub form : IsRecord item
-  pub lawful : fault_of old.reader item ≡ None
+  pub valid : fault_of old.reader item ≡ None
   pub last : is_finish item.kind ≡ true
   pub noted : new.reader ≡ after old.reader item
   pub same : new.platform ≡ old.platform

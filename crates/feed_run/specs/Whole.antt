@@ -30,17 +30,15 @@ Pass fault items = AllByRecursion (λ item. fault item ≡ None) items
 abbrev pub with_all : List FeedRecord → Feed → Feed
 with_all items feed = record feed { items = items ++ feed.items }
 
--- The octets of these records were read of a feed that follows others, and the platform is the one to which they lead.
-pub record IsReached (earlier : FeedState) (run : FeedRun) (before now : Option (List ℕ)) : Type 0 where
+-- The octets of a roster and of these records were read of a feed that follows others, and the platform is the one to which they lead.
+pub record IsReached (earlier : FeedState) (run : FeedRun) (roster : RosterOf) (items : List FeedRecord) (before now : Option (List ℕ)) : Type 0 where
   pub octets : List ℕ
   pub given : before ≡ in_front octets now
   pub first : FeedRecord
-  pub items : List FeedRecord
   pub parts : octets ≡ flat_map record_octets (first ∷ items)
   pub form : AllByRecursion IsRecord (first ∷ items)
   pub count : run.reader.number ≡ earlier.number + length (first ∷ items)
   pub feed : (more : List ℕ) → feed_of (before_next_feed earlier) (octets ++ more) ≡ with_all (first ∷ items) (feed_of run.reader more)
-  pub roster : RosterOf
   pub is_read : roster_of first.body ≡ Ok roster
   pub passed : Pass (roster_fault roster) items
   pub seen : IsSeen (platform_after (fresh roster) items) run.platform.seen

@@ -1,17 +1,24 @@
 //! A feed that is read record by record, and the platform that its records act on.
 
-ghost use Rattle.std.specs.Prelude.{◌≡◌, ◌^◌, ◌<◌, ℕ, List, All, length, true, Some, Option, IfOk, IfErr, IfSome, IfNone, OnOk, None};
+ghost use Rattle.std.specs.Prelude.{◌≡◌, ◌^◌, ◌<◌, ◌≤◌, ℕ, List, All, length, true, Some, Option, IfOk, IfErr, IfSome, IfNone, OnOk, None};
+ghost use Rattle.std.specs.List.{AllByRecursion};
 ghost use Rattle.outside.specs.Told.{NeverFalls};
-ghost use Rattle.rcp_base.specs.Feed.{is_finish};
+ghost use Rattle.rcp_base.specs.Feed.{is_finish, has_length, begins, is_time, moment_of};
+ghost use Rattle.feed_meaning.specs.Platform.{Platform as Defined};
+ghost use Rattle.feed_meaning.specs.Runs.{act};
+ghost use Rattle.platform_laws.specs.Platforms.{IsSeen};
+ghost use Rattle.platform_core.specs.Outputs.{AreFramed};
 ghost use Rattle.feed_run.specs.Statuses.{status_of, status_of_roster, StopCause};
-ghost use Rattle.feed_run.specs.Going.{AnswersAfter, HasCounts, IsGoing, HasBegun, Acts, Finishes, Ends};
+ghost use Rattle.feed_run.specs.Going.{AnswersAfter, HasCounts, IsGoing, Opens, Acts, Finishes, Ends};
 ghost use Rattle.feed_format.specs.declared.status.Status.TheVariants.{Done};
 
-use feed_format::{FeedRefusal, Kind, Out, Reader, Status};
+use feed_format::{FeedRefusal, Kind, Out, Reader, Record, Status};
 use outside::Source;
 use platform_core::Platform;
+use rcp_base::NoMemory;
 use roster::RosterRefusal;
 use std::alloc::Global;
+use std::thread::Threads;
 
 /// A feed whose roster was read: more records follow, or it has come to its Z.
 #[derive(Drop)]
@@ -38,7 +45,7 @@ impl FeedRun {
         requires counts { HasCounts reader }
         requires number { number ≡ reader.number }
         ensures going { IfOk result IsGoing }
-        ensures begun { IfOk result (λ run. HasBegun reader run (S.left source.old) (S.left source.new)) }
+        ensures opened { IfOk result (λ run. Opens reader run (S.left source.old) (S.left source.new)) }
         ensures ends { IfErr result (λ status. (octets : List ℕ) (taken : Option (List ℕ)) → S.left source.old ≡ Some octets
             → AnswersAfter reader status octets (S.left source.new) taken taken) }
         ensures cause { IfErr result (λ status. StopCause status (S.faults source.old) (S.faults source.new)) }
@@ -65,10 +72,17 @@ impl FeedRun {
         }
     }
 
-    /// Reads the next record, and has the platform act on it. Answers what is put out for it, or None where it is the feed's Z.
+    /// Reads the next record, and has the platform act on it. Returns what is put out for it, or None where it is the feed's Z.
+    ///
+    /// With `threads` the shards are worked side by side at a D. Whatever `threads` is, what is put out is the same.
     ///
     /// `Feed` where the record is faulty, `Read` where the source failed. No record follows then.
-    pub fn next<S: Source>(&mut self, source: &mut S) -> Result<Option<Vec<Out>>, Status>
+    pub fn next<R: Threads + Sync, S: Source>(
+        &mut self,
+        rt: &R,
+        threads: bool,
+        source: &mut S,
+    ) -> Result<Option<Vec<Out>>, Status>
         requires { IsGoing self.old }
         ensures going { IfOk result (λ found. IfSome found (λ outs. IsGoing self.new)) }
         ensures further { IfOk result (λ found. IfSome found (λ outs. self.old.reader.octets < self.new.reader.octets)) }
@@ -95,10 +109,30 @@ impl FeedRun {
         if is_finish(item.kind) {
             return Ok(None);
         }
-        match self.platform.step(&item) {
+        match act_on(rt, threads, &mut self.platform, &item) {
             Ok(outs) => Ok(Some(outs)),
             Err(_) => Err(Status::NoMemory),
         }
+    }
+}
+
+/// Has the platform act on a record, and returns what is put out for it.
+fn act_on<R: Threads + Sync>(
+    rt: &R,
+    threads: bool,
+    platform: &mut Platform,
+    item: &Record,
+) -> Result<Vec<Out>, NoMemory>
+    requires body { has_length item.now.kind (length item.now.body) ≡ true }
+    requires number { begins item.now.kind ≡ true → AllByRecursion (λ entry. entry.0 < item.now.source) platform.old.seen.sessions }
+    requires time { is_time item.now.kind ≡ true → platform.old.seen.time ≤ moment_of item.now.body }
+    ensures after { OnOk result ((defined : Defined) → IsSeen defined platform.old.seen → IsSeen (act defined item.now).after platform.new.seen) }
+    ensures output { IfOk result (λ out. (defined : Defined) → IsSeen defined platform.old.seen → out.items ≡ (act defined item.now).out) }
+    ensures framed { IfOk result (λ out. AreFramed out.items) }
+{
+    match item.kind {
+        Kind::Drain => platform.drain_all(rt, threads),
+        _ => platform.step(item),
     }
 }
 

@@ -2,7 +2,8 @@
 
 ghost use Rattle.std.specs.Prelude.{◌≡◌, ℕ, List, Option, Some, IfOk, IfErr, OnOk};
 ghost use Rattle.outside.specs.Told.{NeverFalls};
-ghost use Rattle.rcp_base.specs.Feed.{FeedState};
+ghost use Rattle.rcp_base.specs.Feed.{FeedState, FeedRecord};
+ghost use Rattle.rcp_base.specs.Roster.{RosterOf};
 ghost use Rattle.feed_run.specs.Statuses.{StopCause};
 ghost use Rattle.feed_run.specs.Going.{HasCounts, IsGoing, ReadsAfter};
 ghost use Rattle.feed_run.specs.Whole.{IsReached, IsWhole};
@@ -11,12 +12,14 @@ use crate::records::FeedRun;
 use feed_format::{Reader, Status};
 use outside::Source;
 use std::alloc::Global;
+use std::thread::Threads;
 
 /// Reads a feed to its Z. `reader` has read `number` records of earlier feeds, whose counts go on. No octet after the Z is
 /// read.
 ///
 /// `Feed` and `Roster` where a record or a line of the roster is faulty, `Read` where the source failed.
-pub fn read_feed<S: Source>(
+pub fn read_feed<R: Threads + Sync, S: Source>(
+    rt: &R,
     alloc: Global,
     reader: Reader,
     number: u64,
@@ -34,25 +37,29 @@ pub fn read_feed<S: Source>(
         Ok(feed) => feed,
         Err(status) => return Err(status),
     };
-    match read_rest(&mut feed, source) {
+    match read_rest(rt, &mut feed, source) {
         Ok(()) => Ok(feed),
         Err(status) => Err(status),
     }
 }
 
 /// Reads the records of a feed that are left, up to its Z.
-fn read_rest<S: Source>(feed: &mut FeedRun, source: &mut S) -> Result<(), Status>
+fn read_rest<R: Threads + Sync, S: Source>(
+    rt: &R,
+    feed: &mut FeedRun,
+    source: &mut S,
+) -> Result<(), Status>
     requires { IsGoing feed.old }
     ensures counts { OnOk result (HasCounts feed.new.reader × (feed.new.number ≡ feed.new.reader.number)) }
-    ensures whole { OnOk result ((earlier : FeedState) (before : Option (List ℕ)) → IsReached earlier feed.old before (S.left source.old)
-        → IsWhole earlier feed.new before (S.left source.new)) }
-    ensures ends { IfErr result (λ status. (earlier : FeedState) (octets : List ℕ) → IsReached earlier feed.old (Some octets) (S.left source.old)
-        → ReadsAfter earlier status octets (S.left source.new)) }
+    ensures whole { OnOk result ((earlier : FeedState) (roster : RosterOf) (items : List FeedRecord) (before : Option (List ℕ))
+        → IsReached earlier feed.old roster items before (S.left source.old) → IsWhole earlier feed.new before (S.left source.new)) }
+    ensures ends { IfErr result (λ status. (earlier : FeedState) (roster : RosterOf) (items : List FeedRecord) (octets : List ℕ)
+        → IsReached earlier feed.old roster items (Some octets) (S.left source.old) → ReadsAfter earlier status octets (S.left source.new)) }
     ensures cause { IfErr result (λ status. StopCause status (S.faults source.old) (S.faults source.new)) }
     ensures never_falls { NeverFalls (S.faults source.old) (S.faults source.new) }
 {
     'records: loop {
-        match feed.next(source) {
+        match feed.next(rt, false, source) {
             Ok(Some(_)) => (),
             Ok(None) => return Ok(()),
             Err(status) => return Err(status),

@@ -59,7 +59,7 @@ ok_is x y e = cc
 ok_isnt_err : {A E G : Type 0} (x : A) (f : E) → Err f ≡ ok {A = A} {E = E} x → G
 ok_isnt_err x f e = absurd cc
 
--- reading goes on behind the roster that is open, or passes over the line
+-- reading goes on after the roster that is open, or passes over the line
 abbrev Behind : {E : Type 0} → Option (List ℕ) → Result Step E → Step → Type 0
 Behind s read y = ((y ≡ (None, [])) × (read ≡ Ok (s, []))) ⊎ (read ≡ Ok (y.0, closed s ++ y.1))
 
@@ -154,7 +154,7 @@ any_number n m s (line ∷ lines) p e =
     let h = goes n (line_gives s line) lines p e in
     taken m (line_gives s line) lines h.y h.q h.read (any_number (n + 1) (m + 1) h.y.0 lines h.q h.rest) ∙ ap whole h.both
 
--- lines that begin with a record, behind an open roster
+-- lines that begin with a record, after an open roster
 behind_open : (n : ℕ) (s : Option (List ℕ)) (lines : List (List ℕ)) (p : List ℕ) → lines_give n None lines ≡ whole p → lines_give n s lines ≡ whole (closed s ++ p)
 unfolding lines_give
 behind_open n s [] p e = ap whole (sym (append-nil (closed s)) ∙ ap (λ (q : List ℕ). closed s ++ q) (ap (λ (r : Reading). r.octets) e))

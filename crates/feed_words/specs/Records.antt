@@ -25,7 +25,7 @@ address_word ws = value_word address_of ws
 abbrev pub octet_word : List (List ℕ) → Result (ℕ × List (List ℕ)) WordFault
 octet_word ws = value_word hex_octet ws
 
--- octets in hexadecimal, behind those of a list
+-- octets in hexadecimal, after those of a list
 abbrev pub hex_word : List ℕ → List (List ℕ) → Result (List ℕ × List (List ℕ)) WordFault
 hex_word out ws = value_word (hex_onto out) ws
 

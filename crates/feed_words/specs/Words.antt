@@ -46,7 +46,7 @@ hex_digit c =
 abbrev pub of_two_digits : Option ℕ → Option ℕ → Option ℕ
 of_two_digits high low = option_and_then (λ h. option_and_then (λ l. Some (16 * h + l)) low) high
 
--- octets, behind those of a list, each by two digits
+-- octets, after those of a list, each by two digits
 unfoldable pub hex_pairs_onto : List ℕ → List ℕ → Option (List ℕ)
 hex_pairs_onto out [] = Some out
 hex_pairs_onto out (c ∷ []) = None

@@ -107,7 +107,7 @@ impl Encoder {
         pushed
     }
 
-    /// A line of words, whose fault is told by the number of its word.
+    /// A line of words, whose fault has the number of its word.
     fn counted_words(&mut self, line: &[u8], out: &mut Vec<u8>) -> Result<(), LineStop>
         requires empty { out.old.items ≡ [] }
         requires short { length line.now ≤ 2 ^ 20 }

@@ -1,5 +1,5 @@
 -- A view that follows its graph edge by edge: the rows of the slots whose costs changed, and the edges that are taken out and put in.
-use Rattle.std.proofs.Common.{◌≡◌, ◌≢◌, ℕ, ◌+◌, ◌<◌, ◌≤◌, Bool, true, false, not, ◌==◌, ◌⊎◌, List, [], ◌∷◌, ◌++◌, length, take, get_or, Contains, Option, Some, None, refl, sym, ap, subst, ◌∙◌, inl, inr, arith, eq-eqb}
+use Rattle.std.proofs.Common.{◌≡◌, ◌≢◌, ℕ, ◌+◌, ◌<◌, ◌≤◌, Bool, true, false, not, ◌==◌, ◌⊎◌, List, [], ◌∷◌, ◌++◌, length, take, get_or, Contains, Option, Some, None, refl, sym, ap, subst, ◌∙◌, inl, inr, arith, eq-eqb, eqb-true}
 use Rattle.std.specs.List.{list_any}
 use Rattle.std.proofs.lemmas.List.Elements.{Contains-get_or, Contains-append_left, Contains-append_right, Contains-append_cases}
 use Rattle.std.proofs.lemmas.Bool.{cases_lt}
@@ -15,13 +15,13 @@ use Rattle.rcp_model.proofs.MemberLemmas.{Contains-head, Contains-cases, Contain
 use Rattle.rcp_model.proofs.GraphLemmas.{All-from_members, member_of_include, routers_at, routers_within, rising-same}
 use Rattle.cost_rows.specs.Engines.{cost_from, AreChanges}
 use Rattle.cost_rows.specs.Views.{ViewOf, AreRenewals}
-use Rattle.cost_rows.proofs.ReachLemmas.{router_past, cost_none_to}
+use Rattle.cost_rows.proofs.ReachLemmas.{router_past, cost_none_from, cost_none_to}
 use Rattle.spf_incr.specs.Tables.{EngineOf, IsEngineOver, engine_costs}
 use Rattle.spf_incr.proofs.EdgeLemmas.{not_excluded}
 use Rattle.spf_incr.proofs.PairLemmas.{same-cost, other-cost}
 use Rattle.lsdb.proofs.Sorting.{equal_edge}
 use Rattle.igp_view.proofs.EdgeLemmas.{decided}
-use Rattle.igp_view.specs.Following.{IsEngineOf, AreRowsOf}
+use Rattle.igp_view.specs.Following.{IsEngineOf, AreRowsOf, AreAllRows, IsBeside}
 
 pub only : {X : Type 0} (x y : X) → Contains (x ∷ []) y → x ≡ y
 only x y member = elim (Contains-cases x [] y member) [ inl same ↦ same | inr later ↦ absurd (Contains-none y later) ]
@@ -116,6 +116,50 @@ renewals_by old new view graph pairs rows is over members =
     (λ slot router. subst (λ ms. engine_costs old slot router ≡ cost_from view.edges ms slot router) is.members (is.over.exact slot router))
     (λ slot router. subst (λ ms. engine_costs new slot router ≡ cost_from graph ms slot router) (members ∙ is.members) (over.exact slot router))
 
+-- ---- a view's renewal by all rows
+
+pub no_slots : (costs : ℕ → ℕ → Option ℕ) → AreAllRows costs 0 []
+no_slots costs = record {
+  each = λ slot less. absurd (omega arith);
+  seated = λ slot row member. absurd (Contains-none (slot, row) member);
+  exact = λ slot row member. absurd (Contains-none (slot, row) member);
+}
+
+pub one_more_slot : (costs : ℕ → ℕ → Option ℕ) (count : ℕ) (rows : List (ℕ × List (ℕ × ℕ))) (row : List (ℕ × ℕ)) → ((v : ℕ) → get_at same_number v row ≡ costs count v)
+    → AreAllRows costs count rows → AreAllRows costs (count + 1) (rows ++ (count, row) ∷ [])
+one_more_slot costs count rows row right are = record {
+  each = λ s less. elim (cases_lt s count) [
+    | inl below ↦ let found = are.each s below in (found.0, Contains-append_left rows ((count, row) ∷ []) (s, found.0) found.1)
+    | inr last ↦ (
+      row,
+      subst (λ k. Contains (rows ++ (count, row) ∷ []) (k, row)) (let same : count ≡ s = omega arith in same) (Contains-append_right rows ((count, row) ∷ []) (count, row) (Contains-head (count, row) [])),
+    )
+  ];
+  seated = λ s found member. elim (Contains-append_cases rows ((count, row) ∷ []) (s, found) member) [
+    | inl earlier ↦ let h = are.seated s found earlier in omega arith
+    | inr last ↦ subst (λ (p : ℕ × List (ℕ × ℕ)). p.0 < count + 1) (only (count, row) (s, found) last) (omega arith)
+  ];
+  exact = λ s found member. elim (Contains-append_cases rows ((count, row) ∷ []) (s, found) member) [
+    | inl earlier ↦ are.exact s found earlier
+    | inr last ↦ subst (λ (p : ℕ × List (ℕ × ℕ)). (v : ℕ) → get_at same_number v p.1 ≡ costs p.0 v) (only (count, row) (s, found) last) right
+  ];
+}
+
+pub renewals_by_all : (before graph : List Edge) (members : List Member) (engine : EngineOf) (rows : List (ℕ × List (ℕ × ℕ))) → IsEngineOver engine graph → engine.members ≡ members
+    → AreAllRows (engine_costs engine) (length members) rows → AreRenewals before graph members rows
+renewals_by_all before graph members engine rows over same are = record {
+  seated = All-from_members (λ (given : ℕ × List (ℕ × ℕ)). given.0 < length members) rows (λ given member. are.seated given.0 given.1 member);
+  given = All-from_members (λ (given : ℕ × List (ℕ × ℕ)). (router : ℕ) → get_at same_number router given.1 ≡ cost_from graph members given.0 router) rows
+      (λ given member router. are.exact given.0 given.1 member router
+      ∙ subst (λ ms. engine_costs engine given.0 router ≡ cost_from graph ms given.0 router) same (over.exact given.0 router));
+  others = λ slot none to. elim (cases_lt slot (length members)) [
+    | inl less ↦ let row = are.each slot less in absurd (none row.0 row.1)
+    | inr past ↦
+        let nobody = router_past members slot past in
+        cost_none_from before members slot to nobody ∙ sym (cost_none_from graph members slot to nobody)
+  ];
+}
+
 -- ---- lists taken further
 
 pub taken : {X : Type 0} (xs : List X) (i : ℕ) (x : X) → i < length xs → x ≡ get_or xs i x → take (i + 1) xs ≡ take i xs ++ x ∷ []
@@ -145,30 +189,63 @@ missing_more edges graph found more i item less is kept here before e member =
       | inr last ↦ subst (λ x. Contains graph x ⊎ Contains more x) (only item e last) here
     ]
 
+-- ---- an edge beside another
+
+pub beside_is : (graph edges : List Edge) (edge : Edge) (i : ℕ) (item : Edge) → IsGraph graph → edges ≡ edges_from edge.from graph → i < length edges → item ≡ get_or edges i item → item.to ≡ edge.to → IsBeside graph edge item
+beside_is graph edges edge i item is same less read to =
+    let found = member_of_filter (λ (e : Edge). e.from == edge.from) graph item (item_in (edges_from edge.from graph) edges i item same less read) in
+    record { there = found.0; from = eqb-true item.from edge.from found.1; to = to; cheap = cheap_at graph item is found.0 }
+
+-- an edge beside one of a graph adds no router to that
+pub few_beside : (graph edges : List Edge) (edge other : Edge) → IsGraph edges → Contains edges edge → IsBeside graph edge other → length (routers_in (include_edge other edges)) ≤ 2560
+few_beside graph edges edge other is there beside =
+    let few = is.few in
+    let ends = routers_at edges edge there in
+    let fewer = routers_within (include_edge other edges) (routers_in edges) (λ e member. elim (member_of_include other edges e member) [
+      | inl same ↦ subst (λ (x : Edge). Contains (routers_in edges) x.from × Contains (routers_in edges) x.to) same
+          (subst (Contains (routers_in edges)) (sym beside.from) ends.0, subst (Contains (routers_in edges)) (sym beside.to) ends.1)
+      | inr old ↦ routers_at edges e old
+    ]) in
+    omega arith
+
+-- what is left after an edge is taken out, once others of a graph were put in
+pub replaced : (graph start mid after : List Edge) (edge : Edge) → ((other : Edge) → Contains mid other → Contains graph other ⊎ Contains start other) → after ≡ exclude_edge edge mid
+    → (other : Edge) → Contains after other → Contains graph other ⊎ (Contains start other × ((edge ≡ other) → ⊥))
+replaced graph start mid after edge put is other member =
+    let inside : Contains (exclude_edge edge mid) other = subst (λ es. Contains es other) is member in
+    elim (put other (member_of_filter (λ b. not (same_edge edge b)) mid other inside).0) [
+      | inl there ↦ inl there
+      | inr old ↦ inr (old, λ same. not_excluded edge mid (subst (Contains (exclude_edge edge mid)) (sym same) inside))
+    ]
+
 -- ---- edges taken out, one after another
 
-pub record TakingOut (start : ViewOf) (engine : EngineOf) (view : ViewOf) (out : List Edge) : Type 0 where
+pub record TakingOut (start : ViewOf) (graph : List Edge) (engine : EngineOf) (view : ViewOf) (out : List Edge) : Type 0 where
   pub is_over : IsEngineOf engine view
   pub members : view.members ≡ start.members
-  pub edges : (edge : Edge) → Contains view.edges edge → Contains start.edges edge × (Contains out edge → ⊥)
+  pub edges : (edge : Edge) → Contains view.edges edge → Contains graph edge ⊎ (Contains start.edges edge × (Contains out edge → ⊥))
 
-pub taking_starts : (start : ViewOf) (engine : EngineOf) → IsEngineOf engine start → TakingOut start engine start []
-taking_starts start engine is = record { is_over = is; members = refl; edges = λ edge member. (member, λ none. Contains-none edge none) }
+pub taking_starts : (start : ViewOf) (graph : List Edge) (engine : EngineOf) → IsEngineOf engine start → TakingOut start graph engine start []
+taking_starts start graph engine is = record { is_over = is; members = refl; edges = λ edge member. inr (member, λ none. Contains-none edge none) }
 
-pub taking_step : (start : ViewOf) (engine next : EngineOf) (view after : ViewOf) (out : List Edge) (edge : Edge) → IsEngineOf next after → after.members ≡ view.members → after.edges ≡ exclude_edge edge view.edges
-    → TakingOut start engine view out → TakingOut start next after (out ++ edge ∷ [])
-taking_step start engine next view after out edge is members edges taking = record {
+pub taking_step : (start : ViewOf) (graph : List Edge) (engine next : EngineOf) (view after : ViewOf) (out : List Edge) (edge : Edge) → IsEngineOf next after → after.members ≡ view.members
+    → ((other : Edge) → Contains after.edges other → Contains graph other ⊎ (Contains view.edges other × ((edge ≡ other) → ⊥))) → TakingOut start graph engine view out → TakingOut start graph next after (out ++ edge ∷ [])
+taking_step start graph engine next view after out edge is members edges taking = record {
   is_over = is;
   members = members ∙ taking.members;
-  edges = λ e member.
-      let inside : Contains (exclude_edge edge view.edges) e = subst (λ es. Contains es e) edges member in
-      let was = taking.edges e (member_of_filter (λ b. not (same_edge edge b)) view.edges e inside).0 in (
+  edges = λ e member. elim (edges e member) [
+    | inl there ↦ inl there
+    | inr left ↦ elim (taking.edges e left.0) [
+      | inl there ↦ inl there
+      | inr was ↦ inr (
         was.0,
         λ listed. elim (Contains-append_cases out (edge ∷ []) e listed) [
           | inl earlier ↦ was.1 earlier
-          | inr last ↦ not_excluded edge view.edges (subst (Contains (exclude_edge edge view.edges)) (sym (only edge e last)) inside)
+          | inr last ↦ left.1 (only edge e last)
         ],
-      );
+      )
+    ]
+  ];
 }
 
 -- ---- edges put in, one after another

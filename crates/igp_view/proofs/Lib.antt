@@ -1,6 +1,6 @@
-mod EdgeLemmas
+pub mod EdgeLemmas
 mod FollowingLemmas
-mod StreamLemmas
+pub mod StreamLemmas
 mod TakingLemmas
 pub mod YoungLemmas
 mod ReadLemmas

@@ -1,13 +1,13 @@
 //! A view and its engine brought over another graph, by the edges in which the graphs differ.
 
-ghost use Rattle.std.specs.Prelude.{◌≡◌, ℕ, ◌≤◌, ◌↔◌, ◌⊎◌, true, false, List, length, Contains, IsTrue, IfOk, OnOk};
+ghost use Rattle.std.specs.Prelude.{◌≡◌, ℕ, ◌≤◌, ◌↔◌, ◌⊎◌, true, false, List, length, Contains, IsTrue, IfSome, IfOk, OnOk};
 ghost use Rattle.std.specs.Bool.{OnTrue};
 ghost use Rattle.rcp_base.specs.declared.names.Edge.{Edge};
 ghost use Rattle.rcp_model.specs.Edges.{include_edge};
 ghost use Rattle.rcp_model.specs.Graphs.{exclude_edge, routers_in, most_graph_routers, highest_cost};
 ghost use Rattle.cost_rows.specs.Engines.{graph_before};
 ghost use Rattle.spf_incr.specs.Tables.{engine_costs};
-ghost use Rattle.igp_view.specs.Following.{IsEngineOf, AreRowsOf};
+ghost use Rattle.igp_view.specs.Following.{IsEngineOf, AreRowsOf, AreAllRows, IsBeside};
 
 use cost_rows::{CostEngine, Graph, Row, View};
 use rcp_base::{NoMemory, RouterId, Slot};
@@ -174,20 +174,78 @@ fn put_in(
     follow(alloc, view, engine, graph, edge, true)
 }
 
-/// Takes edges out of the graph of a view and its engine.
+/// The edge of a graph between the same routers and in the same direction as another, if there is one: of several the cheapest.
+fn beside(graph: &Graph, edge: &Edge) -> Option<Edge>
+    ensures { IfSome result (λ other. IsBeside graph.now edge.now other) }
+{
+    let edges = graph.edges_from(edge.from);
+    for other in edges {
+        if other.to == edge.to {
+            return Some(*other);
+        }
+    }
+    None
+}
+
+/// Puts that edge of another graph in that is between the same routers as an edge of the graph of a view and its engine, if there is one.
+fn put_beside(
+    alloc: Global,
+    view: &mut Arc<View>,
+    engine: &mut TreeEngine,
+    edge: &Edge,
+    graph: &Graph,
+) -> Result<(), NoMemory>
+    requires engine { IsEngineOf engine.old view.old.value }
+    requires there { Contains view.old.value.edges edge.now }
+    ensures edges { OnOk result ((other : Edge) → Contains view.new.value.edges other → Contains graph.now other ⊎ Contains view.old.value.edges other) }
+    ensures members { view.new.value.members ≡ view.old.value.members }
+    ensures engine { OnOk result (IsEngineOf engine.new view.new.value) }
+{
+    // The edges before are those of a graph.
+    let _edges = view.graph().edges();
+    match beside(graph, edge) {
+        Some(other) => put_in(alloc, view, engine, other),
+        None => Ok(()),
+    }
+}
+
+/// Takes an edge out of the graph of a view and its engine, if it is there, once the edge beside it in another graph is in. So where a cost falls, the edge
+/// that goes is on no shortest path any more, and no row is searched anew.
+fn replace(
+    alloc: Global,
+    view: &mut Arc<View>,
+    engine: &mut TreeEngine,
+    edge: Edge,
+    graph: &Graph,
+) -> Result<(), NoMemory>
+    requires { IsEngineOf engine.old view.old.value }
+    ensures edges { OnOk result ((other : Edge) → Contains view.new.value.edges other → Contains graph.now other ⊎ (Contains view.old.value.edges other × ((edge ≡ other) → ⊥))) }
+    ensures members { view.new.value.members ≡ view.old.value.members }
+    ensures engine { OnOk result (IsEngineOf engine.new view.new.value) }
+{
+    let before = view.graph();
+    if !has(before, &edge) {
+        return Ok(());
+    }
+    put_beside(alloc, view, engine, &edge, graph)?;
+    take_out(alloc, view, engine, edge)
+}
+
+/// Takes edges out of the graph of a view and its engine. What is put in is of another graph.
 fn take_all_out(
     alloc: Global,
     view: &mut Arc<View>,
     engine: &mut TreeEngine,
     edges: &[Edge],
+    graph: &Graph,
 ) -> Result<(), NoMemory>
     requires { IsEngineOf engine.old view.old.value }
-    ensures edges { OnOk result ((edge : Edge) → Contains view.new.value.edges edge → Contains view.old.value.edges edge × ¬ (Contains edges.now edge)) }
+    ensures edges { OnOk result ((edge : Edge) → Contains view.new.value.edges edge → Contains graph.now edge ⊎ (Contains view.old.value.edges edge × ¬ (Contains edges.now edge))) }
     ensures members { view.new.value.members ≡ view.old.value.members }
     ensures engine { OnOk result (IsEngineOf engine.new view.new.value) }
 {
     for edge in edges {
-        take_out(alloc, view, engine, *edge)?;
+        replace(alloc, view, engine, *edge, graph)?;
     }
     Ok(())
 }
@@ -214,7 +272,21 @@ fn put_all_in(
     Ok(())
 }
 
-/// Builds a view and its engine over another graph.
+/// An engine's row of each of the first slots, at most 512.
+fn all_rows(alloc: Global, engine: &TreeEngine, count: usize) -> Result<Vec<(Slot, Row)>, NoMemory>
+    requires { count ≤ 512 }
+    ensures { IfOk result (λ rows. AreAllRows (engine_costs engine.now) count rows.items) }
+{
+    let mut rows = Vec::new(alloc);
+    for place in 0..count {
+        let slot = Slot(place as u16);
+        let row = engine.row(alloc, slot)?;
+        rows.push((slot, row))?;
+    }
+    Ok(rows)
+}
+
+/// Makes the engine of another graph, and the view of that graph from the engine's rows.
 fn build_anew(
     alloc: Global,
     view: &mut Arc<View>,
@@ -225,8 +297,10 @@ fn build_anew(
     ensures members { view.new.value.members ≡ view.old.value.members }
     ensures engine { OnOk result (IsEngineOf engine.new view.new.value) }
 {
-    *engine = TreeEngine::new(alloc, view.members(), &graph)?;
-    *view = View::build(alloc, view.members(), graph)?;
+    let members = view.members();
+    *engine = TreeEngine::new(alloc, members, &graph)?;
+    let rows = all_rows(alloc, engine, members.len())?;
+    *view = View::renew(alloc, view, graph, rows)?;
     Ok(())
 }
 
@@ -247,6 +321,6 @@ pub fn bring_over(
     if are_many(removed.len(), before.len(), graph.edges().len()) {
         return build_anew(alloc, view, engine, graph);
     }
-    take_all_out(alloc, view, engine, removed.as_slice())?;
+    take_all_out(alloc, view, engine, removed.as_slice(), &graph)?;
     put_all_in(alloc, view, engine, &graph)
 }

@@ -1,6 +1,6 @@
 //! Streams of link state, cut and timed in many ways, and the views over them.
 
-ghost use Rattle.std.specs.Prelude.{◌<◌, ◌≤◌, length};
+ghost use Rattle.std.specs.Prelude.{◌<◌};
 
 use crate::{IgpGot, IgpView};
 use cost_rows::View;
@@ -98,58 +98,75 @@ fn row(alloc: Global, last: &[Link]) -> Result<Vec<u8>, Fail> {
     Ok(stream)
 }
 
-/// The costs from the first member to each of three.
-fn costs_from_first(view: &Arc<View>) -> [Option<u32>; 3] {
-    [0, 1, 2].map(|to| view.cost(Slot(0), Slot(to)))
+/// What comes: octets of the stream or the time alone, each at a time in seconds, or a new stream.
+#[derive(Clone, Copy)]
+enum Event<'a> {
+    Octets(&'a [u8], u64),
+    Clock(u64),
+    Restart,
 }
 
-/// How many LSAs two pieces of a stream bring, and the costs from the first member after both.
-fn in_two_pieces(
-    alloc: Global,
-    roster: &Roster,
-    stream: &[u8],
-    cut: usize,
-) -> Result<(u64, [Option<u32>; 3]), Fail>
-    requires { cut ≤ length stream.now }
-{
-    let (front, back) = stream.split_at(cut);
-    let mut igp = IgpView::new(alloc, roster)?;
-    let first = igp.octets(front, 0)?;
-    let second = igp.octets(back, 0)?;
-    let installed = first.installed.saturating_add(second.installed);
-    Ok((installed, costs_from_first(&igp.view()?)))
+/// The costs from each of the three members to each, by slot.
+type CostTable = [[Option<u32>; 3]; 3];
+
+/// What an event brings, and after it: how often the edges changed, the costs, and whether the rankings are as those of a view that is built over the same graph.
+#[derive(Clone, Copy)]
+struct Answer {
+    got: IgpGot,
+    changes: u64,
+    costs: CostTable,
+    ranked_as_built: bool,
 }
 
-#[test]
-fn any_cut_leaves_one_view(rt: HostRuntime) -> Result<(), Fail> {
-    let alloc = rt.alloc();
-    let roster = roster_of(alloc, BARE)?;
-    let stream = row(alloc, &[(B, 10)])?;
-    for cut in 0..stream.len() {
-        let got = in_two_pieces(alloc, &roster, stream.as_slice(), cut)?;
-        assert_eq!(rt; got, (3, [Some(0), Some(10), Some(20)]), "cut at {cut}");
+fn costs_of(view: &View) -> CostTable {
+    [0, 1, 2].map(|from| [0, 1, 2].map(|to| view.cost(Slot(from), Slot(to))))
+}
+
+/// Whether the rankings are those of a view that is built over the graph.
+fn is_ranked_as_built(alloc: Global, view: &View) -> Result<bool, NoMemory> {
+    let anew = View::build(alloc, view.members(), view.graph().try_clone()?)?;
+    for slot in [0, 1, 2] {
+        if view.ranked(Slot(slot)) != anew.ranked(Slot(slot)) {
+            return Ok(false);
+        }
     }
-    Ok(())
+    Ok(true)
 }
 
-/// The costs from the first member of a roster after a piece.
-fn viewed(alloc: Global, text: &[u8], stream: &[u8]) -> Result<[Option<u32>; 3], Fail> {
+fn take(igp: &mut IgpView, event: Event) -> Result<IgpGot, NoMemory> {
+    match event {
+        Event::Octets(piece, now) => igp.octets(piece, now),
+        Event::Clock(now) => {
+            igp.clock(now)?;
+            Ok(NOTHING)
+        }
+        Event::Restart => {
+            igp.restart();
+            Ok(NOTHING)
+        }
+    }
+}
+
+fn act(alloc: Global, igp: &mut IgpView, event: Event) -> Result<Answer, NoMemory> {
+    let got = take(igp, event)?;
+    let view = igp.view()?;
+    Ok(Answer {
+        got,
+        changes: igp.changes(),
+        costs: costs_of(&view),
+        ranked_as_built: is_ranked_as_built(alloc, &view)?,
+    })
+}
+
+/// What each event answers, over a roster.
+fn answers(alloc: Global, text: &[u8], events: &[Event]) -> Result<Vec<Answer>, Fail> {
     let roster = roster_of(alloc, text)?;
     let mut igp = IgpView::new(alloc, &roster)?;
-    let _got = igp.octets(stream, 0)?;
-    Ok(costs_from_first(&igp.view()?))
-}
-
-#[test]
-fn a_router_that_lists_no_link_is_alone(rt: HostRuntime) -> Result<(), Fail> {
-    let alloc = rt.alloc();
-    let stream = row(alloc, &[])?;
-    assert_eq!(rt; viewed(alloc, BARE, &stream)?, [Some(0), Some(10), None]);
-    assert_eq!(rt;
-        viewed(alloc, LINKED, &stream)?,
-        [Some(0), Some(10), Some(7)]
-    );
-    Ok(())
+    let mut answers = Vec::new(alloc);
+    for event in events {
+        answers.push(act(alloc, &mut igp, *event)?)?;
+    }
+    Ok(answers)
 }
 
 /// A packet of 24 octets, and a header of version 3.
@@ -167,62 +184,92 @@ const NOTHING: IgpGot = IgpGot {
     lost: None,
 };
 
+const ONE_INSTALLED: IgpGot = IgpGot {
+    installed: 1,
+    ..NOTHING
+};
+
+/// What the events bring, over three routers without a link of their own.
+fn gots(alloc: Global, events: &[Event]) -> Result<Vec<IgpGot>, Fail> {
+    let answers = answers(alloc, BARE, events)?;
+    Ok(answers.iter().map(|answer| answer.got).collect(alloc)?)
+}
+
+/// The costs after octets that come in some pieces, and how many LSAs these bring.
+fn in_pieces(
+    alloc: Global,
+    text: &[u8],
+    events: &[Event],
+) -> Result<(u64, [Option<u32>; 3]), Fail> {
+    let answers = answers(alloc, text, events)?;
+    let mut installed: u64 = 0;
+    let mut costs = [None; 3];
+    for answer in &answers {
+        installed = installed.saturating_add(answer.got.installed);
+        costs = answer.costs[0];
+    }
+    Ok((installed, costs))
+}
+
+#[test]
+fn any_cut_leaves_one_view(rt: HostRuntime) -> Result<(), Fail> {
+    let stream = row(rt.alloc(), &[(B, 10)])?;
+    for cut in 0..stream.len() {
+        let (front, back) = stream.split_at(cut);
+        let pieces = [Event::Octets(front, 0), Event::Octets(back, 0)];
+        let got = in_pieces(rt.alloc(), BARE, &pieces)?;
+        assert_eq!(rt; got, (3, [Some(0), Some(10), Some(20)]), "cut at {cut}");
+    }
+    Ok(())
+}
+
+#[test]
+fn a_router_that_lists_no_link_is_alone(rt: HostRuntime) -> Result<(), Fail> {
+    let stream = row(rt.alloc(), &[])?;
+    let pieces = [Event::Octets(&stream, 0)];
+    for (text, last) in [(BARE, None), (LINKED, Some(7))] {
+        let got = in_pieces(rt.alloc(), text, &pieces)?;
+        assert_eq!(rt; got, (3, [Some(0), Some(10), last]));
+    }
+    Ok(())
+}
+
 #[test]
 fn the_place_of_lost_framing_is_answered_once(rt: HostRuntime) -> Result<(), Fail> {
-    let alloc = rt.alloc();
-    let mut igp = IgpView::new(alloc, &roster_of(alloc, BARE)?)?;
-    let update = update(alloc, (A, 1, 1), &[(B, 10)])?;
-    assert_eq!(rt; igp.octets(&HELLO, 0)?, NOTHING);
-    assert_eq!(rt; igp.octets(&HELLO, 0)?, NOTHING);
-    let lost = igp.octets(&OTHER_VERSION, 0)?;
+    let update = update(rt.alloc(), (A, 1, 1), &[(B, 10)])?;
+    let events = [
+        Event::Octets(&HELLO, 0),
+        Event::Octets(&HELLO, 0),
+        Event::Octets(&OTHER_VERSION, 0),
+        Event::Octets(&update, 0),
+        Event::Restart,
+        Event::Octets(&update, 0),
+    ];
+    let lost = IgpGot {
+        lost: Some(48),
+        ..NOTHING
+    };
     assert_eq!(rt;
-        lost,
-        IgpGot {
-            lost: Some(48),
-            ..NOTHING
-        }
-    );
-    assert_eq!(rt; igp.octets(&update, 0)?, NOTHING);
-    igp.restart();
-    let got = igp.octets(&update, 0)?;
-    assert_eq!(rt;
-        got,
-        IgpGot {
-            installed: 1,
-            ..NOTHING
-        }
+        gots(rt.alloc(), &events)?.as_slice(),
+        [NOTHING, NOTHING, lost, NOTHING, NOTHING, ONE_INSTALLED].as_slice()
     );
     Ok(())
 }
 
 #[test]
 fn a_restart_drops_the_front_of_a_packet(rt: HostRuntime) -> Result<(), Fail> {
-    let alloc = rt.alloc();
-    let mut igp = IgpView::new(alloc, &roster_of(alloc, BARE)?)?;
-    let update = update(alloc, (A, 1, 1), &[(B, 10)])?;
+    let update = update(rt.alloc(), (A, 1, 1), &[(B, 10)])?;
     let (front, _) = update.split_at(update.len() / 2);
-    assert_eq!(rt; igp.octets(front, 0)?, NOTHING);
-    igp.restart();
-    let got = igp.octets(&update, 0)?;
+    let events = [
+        Event::Octets(front, 0),
+        Event::Restart,
+        Event::Octets(&update, 0),
+    ];
     assert_eq!(rt;
-        got,
-        IgpGot {
-            installed: 1,
-            ..NOTHING
-        }
+        gots(rt.alloc(), &events)?.as_slice(),
+        [NOTHING, NOTHING, ONE_INSTALLED].as_slice()
     );
     Ok(())
-}
-
-/// Whether the edges change by a time, or by a piece without octets at that time where `by_piece` is true.
-fn changed_at(igp: &mut IgpView, by_piece: bool, now: u64) -> Result<bool, Fail> {
-    let before = igp.changes();
-    if by_piece {
-        let _none = igp.octets(&[], now)?;
-    } else {
-        igp.clock(now)?;
-    }
-    Ok(igp.changes() != before)
 }
 
 #[test]
@@ -230,50 +277,57 @@ fn instances_age_out(rt: HostRuntime) -> Result<(), Fail> {
     let alloc = rt.alloc();
     let mut stream = update(alloc, (A, 3590, 1), &[(B, 10)])?;
     add_update(alloc, &mut stream, 0, (B, 1, 1), &[(A, 10)])?;
-    let mut igp = IgpView::new(alloc, &roster_of(alloc, BARE)?)?;
-    let _got = igp.octets(&stream, 0)?;
-    assert_eq!(rt; igp.changes(), 1);
-    assert!(rt; !changed_at(&mut igp, false, 9)?);
-    assert!(rt; changed_at(&mut igp, false, 10)?);
     // a piece of an earlier time comes at the latest, from which the instance ages on
-    let _got = igp.octets(&stream, 3)?;
-    assert_eq!(rt; igp.changes(), 3);
-    assert!(rt; !changed_at(&mut igp, true, 19)?);
-    assert!(rt; changed_at(&mut igp, true, 20)?);
+    let events = [
+        Event::Octets(&stream, 0),
+        Event::Clock(9),
+        Event::Clock(10),
+        Event::Octets(&stream, 3),
+        Event::Octets(&[], 19),
+        Event::Octets(&[], 20),
+    ];
+    let answers = answers(alloc, BARE, &events)?;
+    let changes: Vec<u64> = answers.iter().map(|answer| answer.changes).collect(alloc)?;
+    assert_eq!(rt; changes.as_slice(), [1, 1, 2, 3, 3, 4].as_slice());
     Ok(())
+}
+
+/// An update whose LSA's last octet isn't that of its checksum.
+fn faulty_update(alloc: Global) -> Result<Vec<u8>, Fail> {
+    let mut faulty = update(alloc, (A, 1, 1), &[(B, 10)])?;
+    let _ = faulty.pop();
+    faulty.push(11)?;
+    Ok(faulty)
+}
+
+/// An update that counts two LSAs and has one.
+fn short_update(alloc: Global) -> Result<Vec<u8>, Fail> {
+    let mut short = update(alloc, (A, 1, 1), &[(B, 10)])?;
+    if short.len() > 27 {
+        short[27] = 2;
+    }
+    Ok(short)
 }
 
 #[test]
 fn what_is_faulty_is_left_out_and_another_area_is_skipped(rt: HostRuntime) -> Result<(), Fail> {
     let alloc = rt.alloc();
-    let mut igp = IgpView::new(alloc, &roster_of(alloc, BARE)?)?;
-    let mut stream = Vec::new(alloc);
-    add_update(alloc, &mut stream, 1, (A, 1, 1), &[(B, 10)])?;
-    assert_eq!(rt; igp.octets(&stream, 0)?, NOTHING);
-    let mut faulty = update(alloc, (A, 1, 1), &[(B, 10)])?;
-    let _ = faulty.pop();
-    faulty.push(11)?;
-    let got = igp.octets(&faulty, 0)?;
+    let mut other_area = Vec::new(alloc);
+    add_update(alloc, &mut other_area, 1, (A, 1, 1), &[(B, 10)])?;
+    let faulty = faulty_update(alloc)?;
+    let short = short_update(alloc)?;
+    let pieces = [&other_area, &faulty, &short].map(|piece| Event::Octets(piece, 0));
+    let left_out = IgpGot {
+        left_out: 1,
+        ..NOTHING
+    };
+    let both = IgpGot {
+        left_out: 1,
+        ..ONE_INSTALLED
+    };
     assert_eq!(rt;
-        got,
-        IgpGot {
-            left_out: 1,
-            ..NOTHING
-        }
-    );
-    // an update that counts two LSAs and has one
-    let mut short = update(alloc, (A, 1, 1), &[(B, 10)])?;
-    if short.len() > 27 {
-        short[27] = 2;
-    }
-    let got = igp.octets(&short, 0)?;
-    assert_eq!(rt;
-        got,
-        IgpGot {
-            installed: 1,
-            left_out: 1,
-            ..NOTHING
-        }
+        gots(alloc, &pieces)?.as_slice(),
+        [NOTHING, left_out, both].as_slice()
     );
     Ok(())
 }
@@ -291,9 +345,9 @@ fn many_routers(alloc: Global) -> Result<Vec<u8>, Fail> {
 
 #[test]
 fn the_2049th_router_has_no_instance(rt: HostRuntime) -> Result<(), Fail> {
-    let alloc = rt.alloc();
-    let stream = many_routers(alloc)?;
-    assert_eq!(rt; viewed(alloc, BARE, &stream)?, [Some(0), Some(10), None]);
+    let stream = many_routers(rt.alloc())?;
+    let (_installed, costs) = in_pieces(rt.alloc(), BARE, &[Event::Octets(&stream, 0)])?;
+    assert_eq!(rt; costs, [Some(0), Some(10), None]);
     Ok(())
 }
 
@@ -383,44 +437,41 @@ fn piece_of(alloc: Global, sequence: i32, metrics: &Metrics) -> Result<Vec<u8>, 
     Ok(stream)
 }
 
-#[test]
-fn views_have_the_costs_of_the_plain_definition(rt: HostRuntime) -> Result<(), Fail> {
-    let alloc = rt.alloc();
-    let mut seed = 2026;
-    let mut igp = IgpView::new(alloc, &roster_of(alloc, BARE)?)?;
+/// What 60 pieces of random metrics bring over a roster, each piece with its metrics.
+fn random_answers(alloc: Global, text: &[u8], seed: u32) -> Result<Vec<(Metrics, Answer)>, Fail> {
+    let mut seed = seed;
+    let mut rounds = Vec::new(alloc);
+    let mut pieces = Vec::new(alloc);
     for round in 0..60 {
         let metrics = random_metrics(&mut seed);
-        let piece = piece_of(alloc, round, &metrics)?;
-        let _got = igp.octets(&piece, 0)?;
-        let view = igp.view()?;
-        let costs = [0, 1, 2].map(|from| [0, 1, 2].map(|to| view.cost(Slot(from), Slot(to))));
-        assert_eq!(rt; costs, plain_costs(&metrics), "in round {round}");
+        rounds.push(metrics)?;
+        pieces.push(piece_of(alloc, round, &metrics)?)?;
+    }
+    let events: Vec<Event> = pieces
+        .iter()
+        .map(|piece| Event::Octets(piece, 0))
+        .collect(alloc)?;
+    let answers = answers(alloc, text, &events)?;
+    let pairs = rounds.iter().zip(&answers);
+    Ok(
+        pairs
+            .map(|(metrics, answer)| (*metrics, *answer))
+            .collect(alloc)?,
+    )
+}
+
+#[test]
+fn views_have_the_costs_of_the_plain_definition(rt: HostRuntime) -> Result<(), Fail> {
+    for (metrics, answer) in &random_answers(rt.alloc(), BARE, 2026)? {
+        assert_eq!(rt; answer.costs, plain_costs(metrics));
     }
     Ok(())
 }
 
-/// A view as it is built over its graph.
-fn built(alloc: Global, view: &View) -> Result<Arc<View>, NoMemory> {
-    View::build(alloc, view.members(), view.graph().try_clone()?)
-}
-
 #[test]
 fn views_that_follow_are_as_if_built(rt: HostRuntime) -> Result<(), Fail> {
-    let alloc = rt.alloc();
-    let mut seed = 24;
-    let mut igp = IgpView::new(alloc, &roster_of(alloc, LINKED)?)?;
-    for round in 0..60 {
-        let piece = piece_of(alloc, round, &random_metrics(&mut seed))?;
-        let _got = igp.octets(&piece, 0)?;
-        let view = igp.view()?;
-        let anew = built(alloc, &view)?;
-        for slot in [0, 1, 2] {
-            assert_eq!(rt;
-                view.ranked(Slot(slot)),
-                anew.ranked(Slot(slot)),
-                "in round {round}"
-            );
-        }
+    for (_metrics, answer) in &random_answers(rt.alloc(), LINKED, 24)? {
+        assert!(rt; answer.ranked_as_built);
     }
     Ok(())
 }

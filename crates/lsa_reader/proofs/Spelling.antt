@@ -11,7 +11,7 @@ use Rattle.rcp_model.specs.RouterLsas.{weighted, has_zero_sums, summed}
 use Rattle.lsa_reader.specs.Writing.{link_octets, written_len, octets_with, Spells}
 use Rattle.lsa_reader.proofs.Sums.{sum-append, sum-cons, weighted-append}
 
--- the summed octets before the checksum, and those behind it
+-- the summed octets before the checksum, and those after it
 abbrev before_checksum : RouterLsa → List ℕ
 before_checksum lsa =
     (2 ∷ 1 ∷ []) ++ to_be_bytes w32 lsa.key ++ to_be_bytes w32 lsa.key ++ to_be_bytes w32 (cast_unsigned w32 lsa.header.sequence)

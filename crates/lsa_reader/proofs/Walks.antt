@@ -33,7 +33,7 @@ IsLsaLen-from_len octets len e =
     let there : lsa_length octets ≤ length octets = ltb-false _ _ facts.2 in
     record { least = omega (arith, facts.3); there = omega (arith, facts.3); is_field = facts.3 }
 
--- one step of the walk, seen from behind it
+-- one step of the walk, seen from after it
 pub record Step (n : ℕ) (packet : List ℕ) (place : ℕ) : Type 0 where
   pub before : ℕ
   pub len : ℕ
@@ -154,7 +154,7 @@ lsas_at-short (suc n) octets less e =
     ap (λ (c : List (List ℕ) × List ℕ). walked (suc n) c.0) (cut-stop lsa_len octets e)
     ∙ ap (λ (short : Bool). let w : Walked = record { lsas = []; short = short } in w) none_found
 
--- no place is come to twice, so a place tells how many LSAs end before it
+-- no place is come to twice, so a place gives how many LSAs end before it
 pub done_at_count : (n count : ℕ) (packet : List ℕ) (place : ℕ) → n ≤ count → place_after n packet ≡ Some place →
     place_after count packet ≡ Some place → count - n ≡ 0
 done_at_count n count packet place less e f = by_order (ltb n count) refl

@@ -73,7 +73,7 @@ fn read_links(alloc: Global, count: u16, bytes: &[u8]) -> Result<Vec<LsaLink>, L
     }
 }
 
-/// The link in front and the octets behind it.
+/// The link in front and the octets after it.
 fn read_link(bytes: &[u8]) -> Option<(LsaLink, &[u8])>
     ensures { MatchOption result (link_at bytes.now ≡ None) (λ found. link_at bytes.now ≡ Some (found.0, found.1.now)) }
 {

@@ -22,7 +22,7 @@ pub fn next_lsa(packet: &[u8], place: usize) -> Option<Result<(usize, u8), LsaFa
     ensures short { IfSome result (λ found. IfErr found (λ fault.
         (fault ≡ LsaFault.Short) × (len_of (drop place packet.now) ≡ None))) }
 
-    // It is a step of the walk over the packet's LSAs, and the place behind an LSA is on the walk too.
+    // It is a step of the walk over the packet's LSAs, and the place after an LSA is on the walk too.
     ensures step { (n : ℕ) → n ≤ lsa_count packet.now → place_after n packet.now ≡ Some place →
         IsStep (lsa_count packet.now - n) (drop place packet.now) result }
     ensures goes_on { IfSome result (λ found. IfOk found (λ lsa. IsOnWalk packet.now (place + lsa.0))) }

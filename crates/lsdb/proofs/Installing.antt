@@ -1,4 +1,4 @@
--- Link states that a database holds, after an LSA and after a moment.
+-- Link states that a database holds, after an LSA and after a time.
 use Rattle.std.proofs.Common.{ap₂, ◌≡◌, ◌≢◌, ℕ, ◌+◌, ◌<◌, ◌≤◌, Bool, true, false, cond, ◌==◌, ◌↔◌, List, length, filter, Option, Some, None, IfSome, is_some, nat_lt, leb, not, nat_cmp, refl, sym, ap, subst, ◌∙◌, arith, eqb-true, eq-eqb}
 use Rattle.std.specs.BTreeMap.{is_at}
 use Rattle.std.specs.Map.{keys_of, lookup}
@@ -119,9 +119,9 @@ holds-still now lsa routers state kept holds answer still is = by_answer answer 
   by_answer Older still is = subst (λ a. Holds (state_of routers) (state_after now lsa state a)) (sym is) holds
   by_answer Dropped still is = subst (λ a. Holds (state_of routers) (state_after now lsa state a)) (sym is) holds
 
--- ---- moments
+-- ---- times
 
--- whether an instance is left at a moment
+-- whether an instance is left at a time
 abbrev pub is_young : ℕ → Kept → Bool
 is_young now kept = nat_lt (header_at now kept).age 3600
 

@@ -1,4 +1,4 @@
--- The edges that a link state tells of, by the least metrics between two routers.
+-- The edges of a link state, by the least metrics between two routers.
 use Rattle.std.proofs.Common.{◌≡◌, ℕ, Bool, true, false, cond, ◌↔◌, List, [], ◌∷◌, ◌++◌, filter, Contains, Option, Some, None, IfSome, is_some, refl, sym, ap, ap₂, subst, ◌∙◌, inl, inr, eqb-true, eq-eqb}
 use Rattle.std.specs.List.{flat_map}
 use Rattle.std.specs.List.Sorted.{IsPermutation}
@@ -33,13 +33,13 @@ member_of_flat f (a ∷ xs) y member = elim (Contains-append_cases (f a) (flat_m
   | inr later ↦ let found = member_of_flat f xs y later in (found.0, Contains-tail a xs found.0 found.1, found.2)
 ]
 
--- ---- what is told of two routers
+-- ---- what is learned of two routers
 
 -- the least metric of the one router's links to the other
 abbrev pub metric : List (ℕ × Kept) → ℕ → ℕ → Option ℕ
 metric routers from to = metric_of from to (get_at same_number from routers)
 
--- an edge of this cost is told of
+-- an edge of this cost is learned
 pub record IsTold (routers : List (ℕ × Kept)) (edge : Edge) : Type 0 where
   pub there : metric routers edge.from edge.to ≡ Some edge.cost
   pub back : is_some (metric routers edge.to edge.from) ≡ true

@@ -51,7 +51,7 @@ module _ (from to : ℕ) where
   pair-itself v w = grind (arith, nat_tests)
 
   module _ (edges : List Edge) (order : IsInOrder edges) (place : ℕ) (below : AllWithin (λ edge. is_pair_before edge ≡ true) edges 0 place) (above : AllWithin (λ edge. is_pair_before edge ≡ false) edges place (length edges)) where
-    -- an edge between the two routers stands at the place or behind it
+    -- an edge between the two routers stands at the place or after it
     not_below : (c : ℕ) (member : Contains edges (edge_of from to c)) → place ≤ member.0
     not_below c member = by_order (cases member.0 place) where
       cases : (k n : ℕ) → (k < n) ⊎ (n ≤ k)
@@ -64,7 +64,7 @@ module _ (from to : ℕ) where
     pub least-past : length edges ≤ place → None ≡ least_between from to edges
     least-past past = least-none from to edges (λ c member. let le = not_below c member in omega (arith, le, member.1))
 
-    -- no edge behind the place is before the one there
+    -- no edge after the place is before the one there
     behind : (c : ℕ) (member : Contains edges (edge_of from to c)) (d : Edge) → place < length edges → is_edge_before (edge_of from to c) (get_or edges place d) ≡ false
     behind c member d within =
         let at : get_or edges member.0 d ≡ edge_of from to c = get_or_default edges member.0 d (edge_of from to c) member.1 ∙ member.2 in

@@ -6,7 +6,7 @@ use Rattle.std.specs.List.Sorted.{IsStrictlySortedBy}
 use Rattle.rcp_base.specs.Maps.{get_at}
 use Rattle.rcp_model.specs.LinkState.{LsaHeader, RouterLsa, Kept, LinkState, same_number, kept_of, capped, most_routers}
 
--- a link state, and the last moment in seconds
+-- a link state, and the latest time in seconds
 pub record Database : Type 0 where
   pub state : LinkState
   pub moment : ℕ

@@ -20,7 +20,7 @@ use std::marker::Model;
 /// How many routers may have an instance.
 const MOST_ROUTERS: usize = 2048;
 
-/// The link-state database of one area. Contracts see a link state and the last moment that it was told, in seconds.
+/// The link-state database of one area. Contracts see a link state and the latest time that `clock` was given, in seconds.
 #[derive(Debug, Drop)]
 pub struct Lsdb {
     routers: BTreeMap<RouterId, Instance>,
@@ -39,7 +39,7 @@ impl Model for Lsdb {
 }
 
 impl Lsdb {
-    /// A database without LSAs, at moment 0.
+    /// A database without LSAs, at time 0.
     pub fn new(alloc: Global) -> Lsdb
         ensures { result ≡ empty }
     {
@@ -50,10 +50,10 @@ impl Lsdb {
         }
     }
 
-    /// Puts an LSA in at the last moment that `clock` was told, or at moment 0, and tells what became of it (RFC 2328
+    /// Puts an LSA in at the latest time that `clock` was given, or at time 0, and returns what became of it (RFC 2328
     /// section 13.1). An age above MaxAge counts as MaxAge.
     ///
-    /// - `Same`: an instance of the router is kept, and they are the same. It stays, with its moment of installation.
+    /// - `Same`: an instance of the router is kept, and they are the same. It stays, with its time of installation.
     /// - `Older`: an instance is kept, and it is more recent.
     /// - `Flushed`: the LSA's age is MaxAge, and none is kept or the LSA is more recent. None is kept then.
     /// - `Dropped`: none is kept, the age is below MaxAge, and 2,048 other routers have one.
@@ -84,7 +84,7 @@ impl Lsdb {
         Ok(answer)
     }
 
-    /// Tells the database the moment, in seconds, which isn't below an earlier one: each instance whose age has reached
+    /// Gives the database the time, in seconds, which isn't below an earlier one: each instance whose age has reached
     /// MaxAge goes (RFC 2328 section 14). True exactly where one went. It goes over all instances, and takes no memory.
     pub fn clock(&mut self, now: u64) -> bool
         requires { self.old.moment ≤ now }
@@ -156,7 +156,7 @@ fn links_in(alloc: Global, routers: &BTreeMap<RouterId, Instance>) -> Result<Vec
     Ok(links)
 }
 
-/// What becomes of an LSA at a moment.
+/// What becomes of an LSA at a time.
 fn judge(routers: &BTreeMap<RouterId, Instance>, lsa: &Lsa, now: u64) -> Installed
     ensures { installation_of result ≡ installation now lsa.now (record { routers = routers.now.entries }) }
 {

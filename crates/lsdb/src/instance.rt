@@ -7,7 +7,7 @@ use crate::recency::{Header, MAX_AGE};
 use lsa_reader::Lsa;
 use std::marker::Model;
 
-/// An LSA and the moment of its installation, in seconds.
+/// An LSA and the time of its installation, in seconds.
 #[derive(Debug, Drop)]
 pub struct Instance {
     pub lsa: Lsa,
@@ -23,7 +23,7 @@ impl Model for Instance {
 }
 
 impl Instance {
-    /// Its header at a moment: it has aged since its installation (RFC 2328 section 14).
+    /// Its header at a time: it has aged since its installation (RFC 2328 section 14).
     pub fn header_at(&self, now: u64) -> Header
         ensures { result ≡ header_at now self.now }
     {

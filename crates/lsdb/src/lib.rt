@@ -1,8 +1,8 @@
 //! The link-state database (RFC 2328 sections 13.1, 14 and 16.1): of each router of an area the most recent router LSA,
-//! and the edges that these tell of.
+//! and the edges that these give.
 //!
-//! An [`Lsdb`] means a link state, which is a map from routers to instances with the moments of their installation, and
-//! the last moment that it was told. A caller may rely on this:
+//! An [`Lsdb`] means a link state, which is a map from routers to instances with the times of their installation, and
+//! the latest time that `clock` was given. A caller may rely on this:
 //!
 //! - `install` answers which of two instances is the more recent one exactly as section 13.1 says, and keeps it. It
 //!   answers `NoMemory` only for one that is to be kept, and the database is then as before.

@@ -1,4 +1,4 @@
-// The edges that instances tell of (RFC 2328 section 16.1).
+// The edges that instances give (RFC 2328 section 16.1).
 ghost use Rattle.std.specs.Prelude.{◌≡◌, ℕ, ◌++◌, filter, All, Contains, IfOk, OnOk};
 ghost use Rattle.rcp_base.specs.declared.names.Edge.{Edge};
 ghost use Rattle.lsdb.specs.Links.{links_from, least_between, is_two_way as two_way, IsInOrder, IsRising, IsCheap, AreEdges};
@@ -8,7 +8,7 @@ use rcp_base::{NoMemory, RouterId};
 use rcp_model::Edge;
 use std::alloc::Global;
 
-/// Puts the point-to-point links of a router behind the links that are there.
+/// Puts the point-to-point links of a router after the links that are there.
 pub fn add_links(edges: &mut Vec<Edge>, router: RouterId, links: &[LsaLink]) -> Result<(), NoMemory>
     ensures edges { OnOk result (edges.new.items ≡ edges.old.items ++ links_from router links.now) }
     ensures cheap { OnOk result (All IsCheap edges.old.items → All IsCheap edges.new.items) }

@@ -26,7 +26,7 @@ pub enum Installed {
     Dropped,
 }
 
-/// What tells instances of one LSA apart. The age is in seconds, at most MaxAge.
+/// What distinguishes instances of one LSA. The age is in seconds, at most MaxAge.
 #[derive(Clone, Copy, Debug, PartialEq, Eq)]
 pub struct Header {
     pub sequence: i32,

@@ -126,7 +126,7 @@ fn a_kept_instance_ages(rt: HostRuntime) -> Result<(), Fail> {
     assert_eq!(rt; lsdb.time(), 901);
     let answer = lsdb.install(lsa(alloc, 1, (0, 1, 5), &[])?, 901)?;
     assert_eq!(rt; answer, Installed::Newer);
-    // It counts from the newer one's moment now.
+    // It counts from the newer one's time now.
     assert!(rt; !lsdb.clock(4500));
     assert!(rt; lsdb.clock(4501));
     Ok(())

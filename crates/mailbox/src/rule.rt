@@ -1,4 +1,4 @@
-// What is known of a mailbox between any two of its steps, and what each step tells.
+// What is known of a mailbox between any two of its steps, and what each step shows.
 
 use crossbeam_queue::protocol::{Join, Lesson, Outcome, Protocol, Split};
 use std::collections::LinkedList;

@@ -104,7 +104,7 @@ alone = ready 1 1 ∷ ready 2 2 ∷ ready 3 3 ∷ heard_on 1 (announcement_by 1)
 abbrev pub alone_output : List OutRecord
 alone_output = update_to 2 (announcement_by 1) ∷ summary_of 3 1 1 ∷ []
 
--- The same network as link state tells of it: the second router lists the third, which lists no link.
+-- The same network as link state has it: the second router lists the third, which lists no link.
 abbrev pub link_to : ℕ → RouterLink
 link_to router = record { id = router; kind = 1; metric = 10 }
 
@@ -151,7 +151,7 @@ faulty_announcement = marker ++ (0 ∷ 52 ∷ 2 ∷ 0 ∷ 0 ∷ 0 ∷ 25 ∷ [])
 abbrev pub faulty : List FeedRecord
 faulty = tie ++ heard_on 1 faulty_announcement ∷ heard_on 1 (1 ∷ 2 ∷ 3 ∷ []) ∷ heard_on 1 (announcement_by 1) ∷ drain_record ∷ []
 
--- Invalid ORIGIN Attribute, with the octets of the attribute. The first router's route is gone, so that the second is told of the third's.
+-- Invalid ORIGIN Attribute, with the octets of the attribute. The first router's route is gone, so that the second is sent the third's.
 abbrev pub faulty_output : List OutRecord
 faulty_output =
     tie_output

@@ -14,7 +14,7 @@ refused_with len code sub content = record {
   closed = Some (ending Faulted code sub);
 }
 
--- ---- OPENs of the first router, of so many octets, with these optional parameters behind their length
+-- ---- OPENs of the first router, of so many octets, with these optional parameters after their length
 
 abbrev pub open_of : ℕ → ℕ → List ℕ → List ℕ
 open_of len parameters_len parameters = marker ++ (0 ∷ len ∷ 1 ∷ 4 ∷ 253 ∷ 232 ∷ 0 ∷ 30 ∷ 10 ∷ 0 ∷ 0 ∷ 1 ∷ parameters_len ∷ parameters)

@@ -5,7 +5,7 @@ use Rattle.rcp_model.specs.Routes.{RouteFields}
 use Rattle.meaning_cases.specs.Examples.{A, linked}
 use Rattle.rcp_model.specs.Sessions.{Doing, ending, Faulted, Up, Input, Octets, Seat, begun, begun_established, answers}
 
--- what a session with the platform of three routers in a row does, from its beginning at moment 0
+-- what a session with the platform of three routers in a row does, from its beginning at time 0
 abbrev pub done : List Input → Doing
 done inputs = (answers linked inputs (begun linked 0).after).does
 
@@ -51,7 +51,7 @@ faulted code sub = record { sent = (marker ++ (0 ∷ 21 ∷ 3 ∷ code ∷ sub �
 abbrev pub faulted_with : ℕ → ℕ → ℕ → ℕ → Doing
 faulted_with code sub a b = record { sent = (marker ++ (0 ∷ 23 ∷ 3 ∷ code ∷ sub ∷ a ∷ b ∷ [])) ∷ []; events = []; claim = None; closed = Some (ending Faulted code sub) }
 
--- ---- a session with the hold time 30, up at moment 0
+-- ---- a session with the hold time 30, up at time 0
 
 abbrev pub up_with : List ℕ → List Input
 up_with opening = Octets opening 0 ∷ Seat true 0 ∷ Octets alive 0 ∷ []

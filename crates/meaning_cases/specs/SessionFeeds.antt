@@ -13,7 +13,7 @@ opened number = record { kind = Raw; source = number; body = [] }
 abbrev pub closed_by_peer : ℕ → FeedRecord
 closed_by_peer number = record { kind = Closed; source = number; body = [] }
 
--- a moment below 256
+-- a time below 256
 abbrev pub at_moment : ℕ → FeedRecord
 at_moment seconds = record { kind = Time; source = 0; body = 0 ∷ 0 ∷ 0 ∷ 0 ∷ 0 ∷ 0 ∷ 0 ∷ seconds ∷ [] }
 

@@ -8,7 +8,7 @@ ghost use Rattle.meaning_cases.specs.Cases.{from_igp, by_65001};
 ghost use Rattle.meaning_cases.specs.SessionCases.{done, done_established, open_30, alive, cease, header_with, faulted};
 ghost use Rattle.meaning_cases.specs.FaultCases.{refused_with, open_of, attributes_alone, announcing, withdrawn_too_long, withdrawal_of_33_bits, announcement_cut_short, confirmed_then, confirmed_and};
 
-/// A header (section 6.1): the marker, and then the type, which is told.
+/// A header (section 6.1): the marker, and then the type, which is in the data.
 pub fn faulty_headers_are_told()
     ensures marker { done (Octets (0 ∷ drop 1 alive) 0 ∷ []) ≡ faulted 1 1 }
     ensures low_type { done (Octets (header_with 0 19 0) 0 ∷ []) ≡ refused_with 22 1 3 (0 ∷ []) }
@@ -32,7 +32,7 @@ pub fn malformed_lists_are_refused()
     ensures twice { done_established (Octets (attributes_alone 31 8 (from_igp ++ from_igp)) 0 ∷ []) ≡ faulted 3 1 }
 {}
 
-/// A well-known attribute that is unrecognised or missing (section 6.3): the attribute is told, or the type of the first that
+/// A well-known attribute that is unrecognised or missing (section 6.3): the attribute is in the data, or the type of the first that
 /// is missing.
 pub fn well_known_attributes_are_asked_for()
     ensures unrecognised { done_established (Octets (attributes_alone 26 3 (64 ∷ 99 ∷ 0 ∷ [])) 0 ∷ []) ≡ refused_with 24 3 2 (64 ∷ 99 ∷ 0 ∷ []) }
@@ -41,7 +41,7 @@ pub fn well_known_attributes_are_asked_for()
     ensures no_next_hop { done_established (Octets (announcing 38 11 (from_igp ++ by_65001)) 0 ∷ []) ≡ refused_with 22 3 3 (3 ∷ []) }
 {}
 
-/// The flags of an attribute, its length and its value, in this order (section 6.3). The attribute is told, but for AS_PATH.
+/// The flags of an attribute, its length and its value, in this order (section 6.3). The attribute is in the data, but for AS_PATH.
 pub fn faulty_attributes_are_told()
     ensures flags { done_established (Octets (attributes_alone 27 4 (192 ∷ 1 ∷ 1 ∷ 0 ∷ [])) 0 ∷ []) ≡ refused_with 25 3 4 (192 ∷ 1 ∷ 1 ∷ 0 ∷ []) }
     ensures flags_first { done_established (Octets (attributes_alone 28 5 (192 ∷ 1 ∷ 2 ∷ 0 ∷ 0 ∷ [])) 0 ∷ []) ≡ refused_with 26 3 4 (192 ∷ 1 ∷ 2 ∷ 0 ∷ 0 ∷ []) }

@@ -8,7 +8,7 @@
 //!
 //! - `readings`: contests between a few routes in which a wrong reading of the decision would give another outcome: cost
 //!   before identifier, MULTI_EXIT_DISC within one AS, partitions, and no route offered back to its router.
-//! - `session_cases`: how sessions open, end and claim seats, how their timers run, and what UPDATEs tell.
+//! - `session_cases`: how sessions open, end and claim seats, how their timers run, and what UPDATEs bring.
 //! - `fault_cases`: each further fault of a header, an OPEN and an UPDATE with its NOTIFICATION, and each message that a state
 //!   doesn't take.
 //! - `link_state_cases`: what packets bring, where framing is lost, and which instance of an LSA is kept how long.

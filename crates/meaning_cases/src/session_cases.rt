@@ -12,7 +12,7 @@ pub fn connection_begins_with_an_open()
     ensures { (begun linked 0).does.sent ≡ platform_open ∷ [] }
 {}
 
-/// A length that no message of the type has is told with the length field (section 6.1).
+/// A length that no message of the type has is reported with the length field (section 6.1).
 pub fn faulty_lengths_are_told()
     ensures short { done (Octets (header_with 0 18 4) 0 ∷ []) ≡ faulted_with 1 2 0 18 }
     ensures long { done (Octets (header_with 16 1 2) 0 ∷ []) ≡ faulted_with 1 2 16 1 }
@@ -58,7 +58,7 @@ pub fn notifications_are_not_answered()
         ≡ record nothing { closed = Some (ending Received 6 0) } }
 {}
 
-/// Octets that come behind the OPEN wait for the seat, and are read then. Where the seat is taken the router is told Cease.
+/// Octets that come after the OPEN wait for the seat, and are read then. Where the seat is taken the router is sent Cease.
 pub fn octets_wait_for_the_seat()
     ensures claim { done (Octets (open_30 ++ alive) 0 ∷ []) ≡ record nothing { claim = Some 0 } }
     ensures free { done (Octets (open_30 ++ take 5 alive) 0 ∷ Octets (drop 5 alive) 1 ∷ Seat true 2 ∷ []) ≡ was_up (alive ∷ []) }
@@ -66,7 +66,7 @@ pub fn octets_wait_for_the_seat()
         ≡ record { sent = cease ∷ []; events = []; claim = Some 0; closed = Some (ending SeatTaken 6 0) } }
 {}
 
-/// An UPDATE tells its routes, and one without prefixes nothing. One with a fault, here an ORIGIN of 3, ends the session
+/// An UPDATE brings its routes, and one without prefixes nothing. One with a fault, here an ORIGIN of 3, ends the session
 /// (section 6.3).
 pub fn updates_tell_their_routes()
     ensures announced { done_established (Octets (announcement_by 1) 0 ∷ [])

@@ -14,7 +14,7 @@ HaveNoNotification messages = AllByRecursion (λ message. is_notification messag
 abbrev pub EndInNotification : FaultOf → List (List ℕ) → Type 0
 EndInNotification why sent = (before : List (List ℕ)) × (sent ≡ before ++ notification_octets why ∷ []) × HaveNoNotification before
 
--- What is sent by an end of this reason, code and subcode: the NOTIFICATION with them where a fault is told, that of Cease
+-- What is sent by an end of this reason, code and subcode: the NOTIFICATION with them where a fault is reported, that of Cease
 -- without data where the seat is taken, and else none.
 abbrev pub SentBy : Reason → ℕ → ℕ → List (List ℕ) → Type 0
 SentBy Faulted code sub sent = (content : List ℕ) × EndInNotification (fault code sub content) sent

@@ -1,4 +1,4 @@
--- Octets that are copied behind others in a buffer.
+-- Octets that are copied after others in a buffer.
 use Rattle.std.proofs.Common.{◌≡◌, ◌++◌, ◌+◌, ◌∙◌, ℕ, List, length, take, drop, ap, sym, append_assoc}
 use Rattle.ospf_packet.specs.Framing.{Framing}
 use Rattle.std.proofs.Math.Seq.{take-add, take-append-add, take-append_seam}

@@ -1,4 +1,4 @@
--- What stands in front of a stream, and that more octets behind it change nothing of it.
+-- What stands in front of a stream, and that more octets after it change nothing of it.
 use Rattle.std.proofs.Common.{◌≡◌, ◌++◌, length-append, ◌≤◌, ◌∙◌, ℕ, Bool, true, false, not, ◌&&◌, List, length, cond, ltb, leb, eqb, ap, sym, refl, arith}
 use Rattle.std.proofs.lemmas.Bool.{ltb-false, le-ltb}
 use Rattle.std.proofs.lemmas.Bool.Decides.{nat_tests}

@@ -7,7 +7,7 @@ pub record Framing : Type 0 where
   pub held : List ℕ
   pub place : ℕ
 
--- a place in a stream as a number of 64 bits: one beyond is told as the last
+-- a place in a stream as a number of 64 bits: one beyond is given as the last
 abbrev pub capped_place : ℕ → ℕ
 capped_place place = min place (2 ^ 64 - 1)
 

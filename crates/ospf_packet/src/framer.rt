@@ -10,7 +10,7 @@ use std::marker::Model;
 use thiserror::Error;
 
 /// The framing of a stream is lost: no packet has the header that stands at this place, an offset in octets from
-/// the start of the stream. A place that doesn't fit is told as the last value.
+/// the start of the stream. A place that doesn't fit is given as the last value.
 #[derive(Clone, Copy, Debug, PartialEq, Eq, Error)]
 #[error("no OSPF packet at octet {place}")]
 pub struct Unsynchronised {
@@ -123,7 +123,7 @@ impl Framer {
     }
 }
 
-/// Copies the front of `piece` behind the first `len` octets of the buffer, until there are `goal` or the piece
+/// Copies the front of `piece` after the first `len` octets of the buffer, until there are `goal` or the piece
 /// ends, and answers how many octets it copied.
 fn fill(buffer: &mut Vec<u8>, len: usize, goal: usize, piece: &[u8]) -> usize
     requires goal_fits { goal ≤ vec_len buffer.old }

@@ -14,7 +14,7 @@ const LINK_STATE_UPDATE: u8 = 4;
 
 const LEAST_UPDATE: usize = 28;
 
-/// The length that the header tells.
+/// The length in the header.
 pub fn packet_len(header: &[u8]) -> usize
     requires { packet_header_len ≤ length header.now }
     ensures length { result ≡ len_of header.now }

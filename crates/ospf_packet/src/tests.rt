@@ -11,7 +11,7 @@ const UPDATE: [u8; 28] = [
     2, 4, 0, 28, 10, 0, 0, 1, 0, 0, 0, 0, 0, 0, 0, 0, 0, 0, 0, 0, 0, 0, 0, 0, 0, 0, 0, 0,
 ];
 
-// Feeds the piece, and puts each packet that is whole behind the others.
+// Feeds the piece, and puts each packet that is whole after the others.
 fn take_all(
     framer: &mut Framer,
     piece: &[u8],

@@ -1,13 +1,13 @@
 -- A table after any run of changes has the values last set, and what changed since is dirty.
-use Rattle.std.proofs.Common.{◌≡◌, ℕ, Bool, not, ◌&&◌, ◌||◌, eqb, cond, List, [], ◌∷◌, Option, Some, None, sym, ap, ◌∙◌}
+use Rattle.std.proofs.Common.{◌≡◌, ℕ, Bool, not, ◌&&◌, ◌||◌, eqb, cond, List, [], ◌∷◌, Option, None, ap, ◌∙◌}
 use Rattle.std.specs.FinMap as map_of
 use Rattle.std.specs.FinSet as set_of
 use Rattle.std.specs.Ordering.{eq_by_cmp}
-use Rattle.rcp_base.specs.IpPrefix.{IpPrefix, prefix_cmp}
+use Rattle.rcp_base.specs.IpPrefix.{IpPrefix}
 use Rattle.rcp_model.specs.Ribs.{rib_cmp}
 use Rattle.rcp_model.proofs.RibLemmas.{rib_total, rib_tied}
 use Rattle.out_table.specs.Cells.{is_same}
-use Rattle.out_table.specs.Tables.{Table, cell, is_dirty}
+use Rattle.out_table.specs.Tables.{cell, is_dirty}
 use Rattle.out_table.specs.Histories.{Change, Open, Set, Take, Clear, table_after, is_cell, last_value, was_changed}
 use Rattle.out_table.proofs.TableLemmas.{get-with_number, contains-marked, cell-cleared, dirty-cleared}
 

@@ -1,6 +1,7 @@
 pub mod RisingLemmas
 pub mod EntryLemmas
-pub mod GrowthLemmas
+pub mod ColumnLemmas
+pub mod SettingLemmas
 pub mod TableLemmas
 pub mod OpenLemmas
 pub mod FoundLemmas

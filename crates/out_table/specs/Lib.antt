@@ -1,4 +1,5 @@
 pub mod Cells
 pub mod Tables
 pub mod Places
+pub mod Columns
 pub mod Histories

@@ -1,9 +1,11 @@
 //! Room for more prefixes and their cells.
 
 ghost use Rattle.std.specs.Prelude.{◌≡◌, ℕ, ◌^◌, ◌<◌, ◌≤◌, length, OnOk, OnErr, IfOk, None, ◌++◌, ◌∷◌, []};
-ghost use Rattle.out_table.specs.Places.{cells_at, KeepsAll, IsRoom, place_of, Adds};
+ghost use Rattle.out_table.specs.Columns.{dirty_at, Roomier};
+ghost use Rattle.out_table.specs.Places.{KeepsAll, IsRoom, place_of, Adds};
 
-use crate::column::Column;
+use crate::columns::Columns;
+use crate::dirty::Dirty;
 use rcp_base::{NoMemory, Prefix};
 use std::alloc::Global;
 use std::collections::BTreeMap;
@@ -12,48 +14,46 @@ use std::collections::BTreeMap;
 /// there is none to be had; the cells that there were are as before then.
 pub fn make_room(
     alloc: Global,
-    columns: &mut Vec<Column>,
-    members: usize,
+    columns: &mut Columns,
     room: usize,
     place: usize,
 ) -> Result<usize, NoMemory>
-    requires room { IsRoom members room columns.old.items }
+    requires room { IsRoom columns.old.members room columns.old.items }
     requires small { place < 2 ^ 32 }
     ensures kept { KeepsAll columns.old.items columns.new.items }
-    ensures few { length columns.new.items ≤ members }
-    ensures enough { IfOk result (λ more. (place < more) × IsRoom members more columns.new.items) }
+    ensures members { columns.new.members ≡ columns.old.members }
+    ensures few { length columns.new.items ≤ columns.new.members }
+    ensures enough { IfOk result (λ more. (place < more) × IsRoom columns.new.members more columns.new.items) }
 {
     if place < room {
         return Ok(room);
     }
     let more = place + place / 4 + 16;
-    add_columns(alloc, columns, members)?;
-    extend_columns(columns, more)?;
+    columns.grow(alloc, more)?;
     Ok(more)
 }
 
-/// Makes a column for each member that has none.
-fn add_columns(alloc: Global, columns: &mut Vec<Column>, members: usize) -> Result<(), NoMemory>
-    requires few { length columns.old.items ≤ members }
-    ensures kept { KeepsAll columns.old.items columns.new.items }
-    ensures few { length columns.new.items ≤ members }
-    ensures full { OnOk result (length columns.new.items ≡ members) }
+/// Adds slots up to a number of them. No place is dirty there.
+pub fn add_slots(alloc: Global, dirty: &mut Vec<Dirty>, members: usize) -> Result<(), NoMemory>
+    requires few { length dirty.old.items ≤ members }
+    ensures roomier { Roomier dirty.old.items dirty.new.items }
+    ensures few { length dirty.new.items ≤ members }
+    ensures full { OnOk result (length dirty.new.items ≡ members) }
 {
-    for _i in columns.len()..members {
-        columns.push(Column::new(alloc))?;
+    for _i in dirty.len()..members {
+        dirty.push(Dirty::new(alloc))?;
     }
     Ok(())
 }
 
-/// Makes at least so many cells in each column.
-fn extend_columns(columns: &mut Vec<Column>, count: usize) -> Result<(), NoMemory>
-    ensures kept { KeepsAll columns.old.items columns.new.items }
-    ensures len { length columns.new.items ≡ length columns.old.items }
-    ensures enough { OnOk result ((slot : ℕ) → slot < length columns.new.items →
-        count ≤ length (cells_at slot columns.new.items).numbers) }
+/// Makes room for so many dirty places in each slot.
+pub fn make_wider(dirty: &mut Vec<Dirty>, room: usize) -> Result<(), NoMemory>
+    ensures roomier { Roomier dirty.old.items dirty.new.items }
+    ensures len { length dirty.new.items ≡ length dirty.old.items }
+    ensures enough { OnOk result ((slot : ℕ) → slot < length dirty.new.items → room ≤ (dirty_at slot dirty.new.items).room) }
 {
-    for slot in 0..columns.len() {
-        columns[slot].extend(count)?;
+    for slot in 0..dirty.len() {
+        dirty[slot].reserve(room)?;
     }
     Ok(())
 }

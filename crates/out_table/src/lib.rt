@@ -23,7 +23,8 @@
 //! ```
 #![tactic(auto)]
 
-mod column;
+mod columns;
+mod dirty;
 mod growth;
 mod laws;
 mod marks;

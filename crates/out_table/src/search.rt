@@ -1,11 +1,11 @@
 //! The first of the opened prefixes, in their order, that passes a test.
 
-ghost use Rattle.std.specs.Prelude.{◌≡◌, find, slice_get, is_some};
+ghost use Rattle.std.specs.Prelude.{◌≡◌, find, slice_get, is_some, ◌<◌, length};
 ghost use Rattle.std.specs.Option.{option_map};
 ghost use Rattle.out_table.specs.Cells.{number_at};
-ghost use Rattle.out_table.specs.Places.{Place, places_after};
+ghost use Rattle.out_table.specs.Places.{Place, cells_at, places_after};
 
-use crate::column::Column;
+use crate::columns::Columns;
 use rcp_base::Prefix;
 use std::collections::BTreeMap;
 use std::ops::Bound;
@@ -28,12 +28,13 @@ pub fn first_after(places: &BTreeMap<Prefix, u32>, p: Prefix) -> Option<Prefix>
 }
 
 /// The first prefix of all at which there is a number.
-pub fn first_with(places: &BTreeMap<Prefix, u32>, column: &Column) -> Option<Prefix>
+pub fn first_with(places: &BTreeMap<Prefix, u32>, columns: &Columns, slot: usize) -> Option<Prefix>
+    requires { slot < length columns.now.items }
     ensures { result ≡ option_map (λ (e : Place). e.0)
-        (find (λ (e : Place). is_some (number_at e.1 column.now.numbers)) places.now.entries) }
+        (find (λ (e : Place). is_some (number_at e.1 (cells_at slot columns.now.items).numbers)) places.now.entries) }
 {
     for (p, place) in places {
-        if column.has_number(*place) {
+        if columns.has_number(slot, *place) {
             return Some(*p);
         }
     }
@@ -43,14 +44,16 @@ pub fn first_with(places: &BTreeMap<Prefix, u32>, column: &Column) -> Option<Pre
 /// The first prefix after another at which there is a number.
 pub fn first_after_with(
     places: &BTreeMap<Prefix, u32>,
-    column: &Column,
+    columns: &Columns,
+    slot: usize,
     p: Prefix,
 ) -> Option<Prefix>
+    requires { slot < length columns.now.items }
     ensures { result ≡ option_map (λ (e : Place). e.0)
-        (find (λ (e : Place). is_some (number_at e.1 column.now.numbers)) (places_after p places.now.entries)) }
+        (find (λ (e : Place). is_some (number_at e.1 (cells_at slot columns.now.items).numbers)) (places_after p places.now.entries)) }
 {
     for (q, place) in places.range((Bound::Excluded(p), Bound::Unbounded)) {
-        if column.has_number(*place) {
+        if columns.has_number(slot, *place) {
             return Some(*q);
         }
     }

@@ -6,7 +6,7 @@ ghost use Rattle.out_table.specs.Cells.{is_same};
 ghost use Rattle.out_table.specs.Tables.{Table, new_table, cell, is_opened, is_dirty, opened, after_set, cleaned, cleared, IsLeast, is_after};
 ghost use Rattle.out_table.specs.Places.{AreInverse, place_of};
 
-use crate::column::Column;
+use crate::columns::Columns;
 use crate::growth::{add_place, make_room};
 use crate::search::{first, first_after, first_after_with, first_with};
 use crate::setting::set_cell;
@@ -20,13 +20,13 @@ use std::marker::Model;
 /// and slot, and the dirty cells.
 ///
 /// Each prefix has a place that never moves. A cell takes four octets, and so does its room among the dirty ones of its
-/// slot. These are kept by rising prefix for each slot alone, so that a slot that isn't taken slows no other.
+/// slot. These are kept by rising prefix for each slot alone, so that a slot that isn't taken slows no other. The cells of a
+/// prefix lie close to one another.
 #[derive(Debug, Drop)]
 pub struct OutTable {
     places: BTreeMap<Prefix, u32>,
     prefixes: Vec<Prefix>,
-    columns: Vec<Column>,
-    members: u16,
+    columns: Columns,
     room: usize,
     last: u32,
     alloc: Global,
@@ -41,9 +41,9 @@ impl Model for OutTable {
 
     ghost use Rattle.out_table.specs.Places.{table_of, IsKept};
 
-    ghost view = { λ t. table_of t.members t.places.entries t.prefixes.items t.columns.items };
+    ghost view = { λ t. table_of t.columns.members t.places.entries t.prefixes.items t.columns.items };
 
-    ghost invariant = { λ t. IsKept t.members t.room t.places.entries t.prefixes.items t.columns.items };
+    ghost invariant = { λ t. IsKept t.columns.members t.room t.places.entries t.prefixes.items t.columns.items };
 }
 
 impl OutTable {
@@ -54,8 +54,7 @@ impl OutTable {
         OutTable {
             places: BTreeMap::new(alloc),
             prefixes: Vec::new(alloc),
-            columns: Vec::new(alloc),
-            members,
+            columns: Columns::new(alloc, members),
             room: 0,
             last: 0,
             alloc,
@@ -66,7 +65,7 @@ impl OutTable {
     pub fn members(&self) -> u16
         ensures { result ≡ self.now.members }
     {
-        self.members
+        self.columns.members()
     }
 
     /// Whether a prefix is opened.
@@ -92,13 +91,7 @@ impl OutTable {
         if place >= u32::MAX as usize {
             return Err(NoMemory);
         }
-        self.room = make_room(
-            self.alloc,
-            &mut self.columns,
-            self.members as usize,
-            self.room,
-            place,
-        )?;
+        self.room = make_room(self.alloc, &mut self.columns, self.room, place)?;
         add_place(&mut self.places, &mut self.prefixes, p)
     }
 
@@ -118,8 +111,14 @@ impl OutTable {
             None => unreachable!(),
         };
         self.last = place;
-        let column = &mut self.columns[slot.0 as usize];
-        set_cell(column, self.prefixes.as_slice(), &p, place, value)
+        set_cell(
+            &mut self.columns,
+            slot.0 as usize,
+            self.prefixes.as_slice(),
+            &p,
+            place,
+            value,
+        )
     }
 
     /// The number in a cell, None where it has no route or its prefix isn't opened.
@@ -128,7 +127,7 @@ impl OutTable {
         ensures { result ≡ cell self.now slot p }
     {
         let place = place_of(&self.places, self.prefixes.as_slice(), self.last, &p)?;
-        self.columns[slot.0 as usize].number(place)
+        self.columns.number(slot.0 as usize, place)
     }
 
     /// The least dirty prefix of a slot, with the number in its cell, which is clean then. None exactly where no cell of
@@ -142,9 +141,8 @@ impl OutTable {
         if slot.0 as usize >= self.columns.len() {
             return None;
         }
-        let column = &mut self.columns[slot.0 as usize];
-        let place = column.take_first()?;
-        let value = column.number(place);
+        let place = self.columns.take_first(slot.0 as usize)?;
+        let value = self.columns.number(slot.0 as usize, place);
         Some((self.prefixes[place as usize], value))
     }
 
@@ -157,9 +155,8 @@ impl OutTable {
         if slot.0 as usize >= self.columns.len() {
             return None;
         }
-        let column = &self.columns[slot.0 as usize];
-        let place = column.first()?;
-        let value = column.number(place);
+        let place = self.columns.first(slot.0 as usize)?;
+        let value = self.columns.number(slot.0 as usize, place);
         Some((self.prefixes[place as usize], value))
     }
 
@@ -169,8 +166,7 @@ impl OutTable {
         ensures { self.new ≡ cleared slot self.old }
     {
         if (slot.0 as usize) < self.columns.len() {
-            let column = &mut self.columns[slot.0 as usize];
-            column.clear();
+            self.columns.clear(slot.0 as usize);
         }
     }
 
@@ -194,10 +190,9 @@ impl OutTable {
         if slot.0 as usize >= self.columns.len() {
             return None;
         }
-        let column = &self.columns[slot.0 as usize];
         match after {
-            None => first_with(&self.places, column),
-            Some(p) => first_after_with(&self.places, column, p),
+            None => first_with(&self.places, &self.columns, slot.0 as usize),
+            Some(p) => first_after_with(&self.places, &self.columns, slot.0 as usize, p),
         }
     }
 }

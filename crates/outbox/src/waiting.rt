@@ -80,6 +80,7 @@ impl Outbox {
           waiting = self.old.waiting ++ map (λ m. m.items) messages.items;
           to_last_update = length (self.old.waiting ++ map (λ m. m.items) messages.items);
         }) }
+        ensures same_front { front self.new ≡ front self.old }
         ensures refused { OnErr result (self.new ≡ self.old) }
     {
         self.push(messages)?;

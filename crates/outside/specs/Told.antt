@@ -1,4 +1,4 @@
--- The words of the traits of the outside: counts that never fall, and octets that are told or not.
+-- The words of the traits of the outside: counts that never fall, and octets that contracts know or not.
 use Rattle.std.specs.Prelude.{◌≡◌, refl, ℕ, ◌+◌, ◌-◌, ◌^◌, ◌<◌, ◌≤◌, min, List, [], ◌++◌, Option, None, Some, All}
 use Rattle.std.proofs.Common.{ap, sym, append_assoc, append-nil}
 
@@ -17,17 +17,17 @@ NeverFalls before now = before ≤ now
 abbrev pub AreOctets : List ℕ → Type 0
 AreOctets xs = All (λ x. x < 256) xs
 
--- these octets put in front of those still to come, where they are told
+-- these octets put in front of those still to come, where they are known
 abbrev pub in_front : List ℕ → Option (List ℕ) → Option (List ℕ)
 in_front octets None = None
 in_front octets (Some left) = Some (octets ++ left)
 
--- these octets put behind those taken, where they are told
+-- these octets put after those taken, where they are known
 abbrev pub behind : Option (List ℕ) → List ℕ → Option (List ℕ)
 behind None octets = None
 behind (Some taken) octets = Some (taken ++ octets)
 
--- these values put behind those of a list, where it is told
+-- these values put after those of a list, where it is known
 abbrev pub followed : {A : Type 0} → Option (List A) → List A → Option (List A)
 followed None more = None
 followed (Some list) more = Some (list ++ more)

@@ -11,6 +11,7 @@ use Rattle.path_attrs.specs.declared.value.Value.{Value}
 use Rattle.path_attrs.specs.declared.value.Value.TheVariants as values
 use Rattle.std.proofs.lemmas.List.Folds.{flat_map-map, length-flat_map-take}
 use Rattle.std.proofs.lemmas.Grind.{flat_map-append}
+use Rattle.path_attrs.proofs.Faultless.{length_insert}
 use Rattle.path_attrs.proofs.Types.{insert-above}
 
 -- a value is sent on as it is shown
@@ -99,3 +100,28 @@ parts_long vs place kept =
 pub default_short : (there : Bool) → length (default_octets there) ≤ 7
 default_short true = omega arith
 default_short false = omega (arith, default_long)
+
+-- how many octets the canonical form has
+pub canonical_long : (vs : List Value) (there : Bool) → IsKept (all_shown vs) → there ≡ is_some (value_of LOCAL_PREF (all_shown vs))
+    → length (canonical_octets (all_shown vs)) ≡ length (octets_of (all_shown vs)) + length (default_octets there)
+canonical_long vs true kept is = omega (arith, ap (λ (bs : List Attribute). length (octets_of bs)) (canonical-there vs kept (sym is)))
+canonical_long vs false kept is =
+    omega (arith, ap (λ (bs : List Attribute). length (octets_of bs)) (canonical-absent vs kept (sym is)), length_insert default_pref (all_shown vs))
+
+pub canonical_short : (vs : List Value) → IsKept (all_shown vs) → length (canonical_octets (all_shown vs)) ≤ 4080
+canonical_short vs kept =
+    let there = is_some (value_of LOCAL_PREF (all_shown vs)) in
+    omega (arith, canonical_long vs there kept refl, default_short there, kept.short)
+
+-- how many octets each part of it has
+pub parts_fit : (vs front back : List Value) (place : ℕ) (there : Bool) → IsKept (all_shown vs) → there ≡ is_some (value_of LOCAL_PREF (all_shown vs))
+    → insert_by_type default_pref (all_shown vs) ≡ take place (all_shown vs) ++ default_pref ∷ drop place (all_shown vs) → front ≡ take place vs → back ≡ drop place vs
+    → length (octets_of (all_shown front)) + length (default_octets there) + length (octets_of (all_shown back)) ≡ length (canonical_octets (all_shown vs))
+parts_fit vs front back place there kept is at f b =
+    rw (f, b)
+    (omega (
+      arith,
+      ap length (canonical-parts vs place there kept is at),
+      length-append (octets_of (all_shown (take place vs)) ++ default_octets there) (octets_of (all_shown (drop place vs))),
+      length-append (octets_of (all_shown (take place vs))) (default_octets there),
+    ))

@@ -12,7 +12,7 @@ cut_after-skips size (suc left) [] = refl
 cut_after-skips size zero (x ∷ xs) = refl
 cut_after-skips size (suc left) (x ∷ xs) = cut_after-skips size left xs
 
--- a whole piece in front, and then the cut of what is behind it
+-- a whole piece in front, and then the cut of what follows it
 pub cut-more : (size : List ℕ → Option ℕ) (xs : List ℕ) (n : ℕ) → size xs ≡ Some n → 0 < n → 0 < length xs → cut size xs ≡ (take n xs ∷ (cut size (drop n xs)).0, (cut size (drop n xs)).1)
 cut-more size [] n is some long = absurd (omega arith)
 cut-more size (x ∷ xs) zero is some long = absurd (omega arith)
@@ -25,7 +25,7 @@ pub cut-none : (size : List ℕ → Option ℕ) (xs : List ℕ) → size xs ≡ 
 cut-none size [] is = refl
 cut-none size (x ∷ xs) is = rw (is, cut_after) refl
 
--- a piece that is known, and what is behind it
+-- a piece that is known, and what follows it
 pub cut-piece : (size : List ℕ → Option ℕ) (piece rest : List ℕ) → size (piece ++ rest) ≡ Some (length piece) → 0 < length piece → cut size (piece ++ rest) ≡ (piece ∷ (cut size rest).0, (cut size rest).1)
 cut-piece size piece rest is some =
     let long : 0 < length (piece ++ rest) = omega (arith, length-append piece rest) in
@@ -45,7 +45,7 @@ IsBytes-take n xs bytes i = elim (cases_lt i n) [
 pub IsBytes-drop : (n : ℕ) (xs : List ℕ) → IsBytes xs → IsBytes (drop n xs)
 IsBytes-drop n xs bytes i = rw (get_or-drop n xs i 0) (bytes (n + i))
 
--- what holds of each piece that a size tells holds of all pieces
+-- what holds of each piece of a given size holds of all pieces
 module _ (size : List ℕ → Option ℕ) (P : List ℕ → Type 0) (good : (xs : List ℕ) (n : ℕ) → IsBytes xs → size xs ≡ Some n → P (take n xs)) where
   each_after : (left : ℕ) (xs : List ℕ) → IsBytes xs → AllByRecursion P (cut_after size left xs).0
   each_after zero [] octets = tt

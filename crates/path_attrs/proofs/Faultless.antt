@@ -196,7 +196,7 @@ written_long piece is =
 
 -- ---- all attributes
 
-length_insert : (a : Attribute) (bs : List Attribute) → length (octets_of (insert_by_type a bs)) ≡ length (attribute_octets a) + length (octets_of bs)
+pub length_insert : (a : Attribute) (bs : List Attribute) → length (octets_of (insert_by_type a bs)) ≡ length (attribute_octets a) + length (octets_of bs)
 length_insert a [] = length-append (attribute_octets a) []
 length_insert a (b ∷ bs) = elim (cases_lt b.kind a.kind) [
   | inl lt ↦

@@ -11,7 +11,7 @@ use Rattle.path_attrs.specs.Shown.{shown, all_shown}
 before : (a b : Attribute) (bs : List Attribute) → a.kind ≤ b.kind → insert_by_type a (b ∷ bs) ≡ a ∷ b ∷ bs
 before a b bs le = rw (le-ltb b.kind a.kind le) refl
 
--- and behind one of a lower type
+-- and after one of a lower type
 after : (a b : Attribute) (bs : List Attribute) → b.kind < a.kind → insert_by_type a (b ∷ bs) ≡ b ∷ insert_by_type a bs
 after a b bs lt = rw (lt-ltb b.kind a.kind lt) refl
 

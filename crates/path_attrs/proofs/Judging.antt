@@ -210,7 +210,7 @@ module _ (body : List ℕ) (place : ℕ) (seen : List Bool) (done : List Attribu
       now.in_order ∙ ap (λ (parts : List (List ℕ) × List ℕ). now.pieces ++ parts.0) (cut-next body place (length piece) whole)
       ∙ ap (λ q. now.pieces ++ q ∷ (cut attribute_size (drop (place + length piece) body)).0) (sym taken)
 
-  -- the reader goes on behind it
+  -- the reader goes on after it
   pub reading-goes_on : length seen ≡ 256
       → IsReading body (place + length piece) (slice_set seen (slice_index piece 1) true) (done ++ attribute_of piece ∷ []) × (has_kind (slice_index piece 1) done ≡ false)
   reading-goes_on all =

@@ -1,9 +1,8 @@
 -- What stands in front of octets that are attributes or numbers, and texts that are added one after another.
-use Rattle.std.proofs.Common.{◌≡◌, ℕ, ◌+◌, ◌<◌, ◌≤◌, Bool, false, eqb, leb, List, [], ◌∷◌, ◌++◌, length, take, drop, map, Some, None, refl, sym, ap, ◌∙◌, arith, append_assoc}
+use Rattle.std.proofs.Common.{◌≡◌, ℕ, ◌<◌, false, leb, List, [], ◌∷◌, ◌++◌, length, take, drop, map, Some, None, refl, sym, ap, ◌∙◌, append_assoc}
 use Rattle.std.specs.Int.{from_be_bytes}
 use Rattle.std.specs.List.{flat_map, join_with_byte}
 use Rattle.std.proofs.lemmas.Bool.{lt-leb}
-use Rattle.rcp_base.specs.Cut.{cut}
 use Rattle.rcp_model.specs.Attributes.{attribute_size, attribute_of, attributes_in, number_size, numbers_in, number_width}
 use Rattle.path_attrs.proofs.Cutting.{cut-more, cut-none}
 

@@ -12,7 +12,7 @@ use Rattle.path_attrs.specs.Readings.{all_inserted, passed_on, sent_on}
 abbrev pub has_kind : ℕ → List Attribute → Bool
 has_kind kind attributes = list_any (λ a. eqb a.kind kind) attributes
 
--- whether an attribute's type is below the one behind it
+-- whether an attribute's type is below the next one's
 pub neither : (x y : Bool) → (x || y) ≡ false → (x ≡ false) × (y ≡ false)
 neither true y none = absurd cc
 neither false y none = (refl, none)

@@ -37,7 +37,7 @@ impl Aggregator {
         }
     }
 
-    /// Puts an aggregator at a place, and gives the place behind it.
+    /// Puts an aggregator at a place, and gives the place after it.
     pub fn put(self, out: &mut [u8], at: usize) -> usize
         requires { at + (byte_len number_width + 4) ≤ length out.old }
         ensures { Appends out.old at out.new result (aggregator_octets self) }

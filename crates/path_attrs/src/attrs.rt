@@ -7,10 +7,13 @@ ghost use Rattle.rcp_model.specs.Attributes.{Attribute, insert_by_type, value_of
 ghost use Rattle.path_attrs.specs.Lists.{IsKept};
 ghost use Rattle.path_attrs.specs.Shown.{shown, all_shown};
 
-use crate::table::{AS_PATH, NEXT_HOP, ORIGIN};
+use crate::table::{AS_PATH, COMMUNITIES, NEXT_HOP, ORIGIN};
 use crate::value::Value;
 use std::alloc::AllocError;
 use std::marker::Model;
+
+/// How many types are recognised: 1 to COMMUNITIES.
+const RECOGNISED: usize = COMMUNITIES as usize;
 
 /// The path attributes of an UPDATE that are sent on, in order of type. Contracts see the list of attributes, each with
 /// the flags that it is sent on with.
@@ -61,7 +64,14 @@ pub fn has_route(attrs: &Attrs) -> bool
 pub fn has(attrs: &Attrs, kind: u8) -> bool
     ensures { result ≡ is_some (value_of kind attrs.now) }
 {
-    find(attrs.values(), kind).is_some()
+    is_there(attrs.values(), kind)
+}
+
+/// Whether there is a value of this type among values.
+pub fn is_there(values: &[Value], kind: u8) -> bool
+    ensures { result ≡ is_some (value_of kind (all_shown values.now)) }
+{
+    find(values, kind).is_some()
 }
 
 /// The value of a type, where there is one.
@@ -91,11 +101,26 @@ pub fn place_of(values: &[Value], kind: u8) -> usize
     values.len()
 }
 
-/// Puts a value in its place.
+/// Makes room for one value of each recognised type where there is none at all.
+fn make_room(values: &mut Vec<Value>) -> Result<(), AllocError>
+    ensures { values.new.items ≡ values.old.items }
+{
+    if values.capacity() == 0 {
+        values.reserve(RECOGNISED)?;
+    }
+    Ok(())
+}
+
+/// Puts a value in its place. The first one makes room for others.
 pub fn insert(values: &mut Vec<Value>, value: Value) -> Result<(), AllocError>
     ensures { OnOk result (all_shown values.new.items ≡ insert_by_type (shown value) (all_shown values.old.items)) }
 {
+    make_room(values)?;
     let place = place_of(values, value.kind());
-    values.insert(place, value)?;
+    if place == values.len() {
+        values.push(value)?;
+    } else {
+        values.insert(place, value)?;
+    }
     Ok(())
 }

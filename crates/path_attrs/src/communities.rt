@@ -30,7 +30,7 @@ pub fn communities_len(numbers: &[u32]) -> usize
     numbers.len() * 4
 }
 
-/// Puts numbers of four octets at a place, and gives the place behind them.
+/// Puts numbers of four octets at a place, and gives the place after them.
 pub fn put_communities(out: &mut [u8], at: usize, numbers: &[u32]) -> usize
     requires { at + length (flat_map (to_be_bytes w32) numbers.now) ≤ length out.old }
     ensures { Appends out.old at out.new result (flat_map (to_be_bytes w32) numbers.now) }

@@ -14,7 +14,7 @@ pub type AsNumber = u16;
 /// How many octets an AS number has.
 pub const NUMBER_LEN: usize = 2;
 
-/// The AS number at the front and the octets behind it, or None where they are too few.
+/// The AS number at the front and the octets after it, or None where they are too few.
 #[tactic(auto, using(crate::proofs::Paths::numbers_in_front))]
 pub fn split_number(octets: &[u8]) -> Option<(AsNumber, &[u8])>
     ensures none { IfNone result (length octets.now < byte_len number_width) }
@@ -28,7 +28,7 @@ pub fn split_number(octets: &[u8]) -> Option<(AsNumber, &[u8])>
     }
 }
 
-/// Puts an AS number at a place, and gives the place behind it.
+/// Puts an AS number at a place, and gives the place after it.
 pub fn put_number(out: &mut [u8], at: usize, number: AsNumber) -> usize
     requires { at + byte_len number_width ≤ length out.old }
     ensures { Appends out.old at out.new result (number_octets number) }
@@ -36,7 +36,7 @@ pub fn put_number(out: &mut [u8], at: usize, number: AsNumber) -> usize
     put(out, at, &number.to_be_bytes())
 }
 
-/// The number of four octets at the front and the octets behind it, or None where they are too few.
+/// The number of four octets at the front and the octets after it, or None where they are too few.
 pub fn split_u32(octets: &[u8]) -> Option<(u32, &[u8])>
     ensures { MatchOption result (length octets.now < 4)
         (λ split. octets.now ≡ to_be_bytes w32 split.0 ++ split.1.now) }
@@ -47,7 +47,7 @@ pub fn split_u32(octets: &[u8]) -> Option<(u32, &[u8])>
     }
 }
 
-/// Puts a number of four octets at a place, and gives the place behind it.
+/// Puts a number of four octets at a place, and gives the place after it.
 pub fn put_u32(out: &mut [u8], at: usize, number: u32) -> usize
     requires { at + 4 ≤ length out.old }
     ensures { Appends out.old at out.new result (to_be_bytes w32 number) }

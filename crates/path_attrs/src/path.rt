@@ -74,7 +74,7 @@ impl MadeWith<Global> for Segment {
 /// A path: its segments, of which most paths have one.
 #[derive(Debug, Drop)]
 pub struct Path {
-    segments: SmallVec<Segment, 2>,
+    segments: SmallVec<Segment, 1>,
 }
 
 impl Model for Path {
@@ -112,7 +112,7 @@ impl Path {
         segments_len(self.segments.as_slice())
     }
 
-    /// Puts the path at a place, and gives the place behind it.
+    /// Puts the path at a place, and gives the place after it.
     pub fn put(&self, out: &mut [u8], at: usize) -> usize
         requires { at + length (path_octets self.now) ≤ length out.old }
         ensures { Appends out.old at out.new result (path_octets self.now) }
@@ -162,7 +162,7 @@ impl Segment {
         2 + self.numbers.len() * NUMBER_LEN
     }
 
-    /// Puts the segment at a place, and gives the place behind it.
+    /// Puts the segment at a place, and gives the place after it.
     fn put(&self, out: &mut [u8], at: usize) -> usize
         requires { at + length (segment_octets self.now) ≤ length out.old }
         ensures { Appends out.old at out.new result (segment_octets self.now) }
@@ -299,7 +299,7 @@ fn segments_len(segments: &[Segment]) -> usize
     len
 }
 
-/// Puts segments at a place, and gives the place behind them.
+/// Puts segments at a place, and gives the place after them.
 fn put_segments(out: &mut [u8], at: usize, segments: &[Segment]) -> usize
     requires { at + length (path_octets segments.now) ≤ length out.old }
     ensures { Appends out.old at out.new result (path_octets segments.now) }
@@ -311,7 +311,7 @@ fn put_segments(out: &mut [u8], at: usize, segments: &[Segment]) -> usize
     end
 }
 
-/// Puts AS numbers at a place, and gives the place behind them.
+/// Puts AS numbers at a place, and gives the place after them.
 fn put_numbers(out: &mut [u8], at: usize, numbers: &[AsNumber]) -> usize
     requires { at + length (flat_map number_octets numbers.now) ≤ length out.old }
     ensures { Appends out.old at out.new result (flat_map number_octets numbers.now) }

@@ -12,7 +12,7 @@ use crate::attrs::{Attrs, find};
 use crate::path::{Segment, hops, neighbour, passes};
 use crate::table::{AS_PATH, LOCAL_PREF, MULTI_EXIT_DISC, NEXT_HOP, ORIGIN};
 use crate::value::Value;
-use crate::writing::{DEFAULT_PREF, write};
+use crate::writing::{DEFAULT_PREF, canonical_octets};
 use rcp_base::{Addr, NoMemory};
 use rcp_model::{Octets, Route};
 use std::alloc::Global;
@@ -25,14 +25,13 @@ const MOST_OCTETS: usize = 4068;
 /// (RFC 4271, sections 5 and 9.1). It is long where those have more than 4,068 octets, and looped where the AS stands in
 /// its path.
 ///
-/// The attributes need ORIGIN, AS_PATH and NEXT_HOP, which `has_route` tells. `NoMemory` comes where there was no room
+/// The attributes need ORIGIN, AS_PATH and NEXT_HOP, which `has_route` tests. `NoMemory` comes where there was no room
 /// for the octets.
 pub fn route(alloc: Global, attrs: &Attrs, local_as: u32) -> Result<Route, NoMemory>
     requires { IsTrue (model.has_route attrs.now) }
     ensures { IfOk result (λ route. route ≡ route_of number_width local_as attrs.now) }
 {
-    let mut octets = [0; 8192];
-    let len = write(attrs, &mut octets);
+    let octets = canonical_octets(alloc, attrs)?;
     let values = attrs.values();
     let path = segments(values);
     Ok(Route {
@@ -42,9 +41,9 @@ pub fn route(alloc: Global, attrs: &Attrs, local_as: u32) -> Result<Route, NoMem
         neighbour: neighbour(path, local_as),
         med: multi_exit_disc(values),
         looped: passes(path, local_as),
-        long: is_long(len),
+        long: is_long(octets.len()),
         next_hop: Addr(next_hop(values)),
-        attrs: shared(alloc, &octets[..len])?,
+        attrs: shared(alloc, &octets)?,
     })
 }
 

@@ -71,7 +71,7 @@ fn a_list_is_written_in_its_one_form(rt: HostRuntime) -> Result<(), Fail> {
 
 // Lists, whether the UPDATE has NLRI, and of the first fault its code, its subcode and its data.
 const FAULTS: [(&str, bool, (u8, u8), &str); 72] = [
-    // an attribute runs past the end: in its header, in its value, behind another
+    // an attribute runs past the end: in its header, in its value, after another
     ("40", false, (3, 1), ""),
     ("4001", false, (3, 1), ""),
     ("400101", false, (3, 1), ""),
@@ -235,7 +235,7 @@ fn the_longest_values_are_read(rt: HostRuntime) -> Result<(), Fail> {
     Ok(())
 }
 
-// Of an attribute behind LIST, or behind LIST without LOCAL_PREF, its header, and how many zeros make its value: the
+// Of an attribute after LIST, or after LIST without LOCAL_PREF, its header, and how many zeros make its value: the
 // octets that are written of both, and whether the route is long.
 const LONG: [(&str, &str, usize, usize, bool); 5] = [
     (LIST, "d0630fc7", 4039, 4068, false),
@@ -285,7 +285,7 @@ const ROUTES: [(&str, (u32, u32, u8, u32, u32, bool, u32)); 5] = [
         "40010101 40020a0102fdeafdeb0201fdec 4003040a000001 4005040000012c",
         (300, 2, 1, 65000, 0, false, 0x0a000001),
     ),
-    // the local AS in a set behind a sequence
+    // the local AS in a set after a sequence
     (
         "40010100 40020a0201fde90102fdeafde8 4003040a000001",
         (100, 2, 0, 65001, 0, true, 0x0a000001),
@@ -374,7 +374,7 @@ fn octets(alloc: Global, text: &str) -> Result<Vec<u8>, Fail> {
     Ok(octets)
 }
 
-// The octets of a text of digits, and so many zeros behind them.
+// The octets of a text of digits, and so many zeros after them.
 fn with_zeros(alloc: Global, head: &str, len: usize) -> Result<Vec<u8>, Fail> {
     let mut list = octets(alloc, head)?;
     for _ in 0..len {

@@ -98,6 +98,15 @@ impl Value {
         }
     }
 
+    /// How many octets the attribute has.
+    pub fn octets_len(&self) -> usize
+        requires { length (shown self.now).value < 2 ^ 16 }
+        ensures { result ≡ length (attribute_octets (shown self.now)) }
+    {
+        let len = self.value_len();
+        if len <= 255 { 3 + len } else { 4 + len }
+    }
+
     /// The value of an attribute that has no fault, and is sent on.
     pub fn read(alloc: Global, flags: u8, kind: u8, octets: &[u8]) -> Result<Value, AllocError>
         requires length { (is_recognised kind
@@ -129,7 +138,7 @@ impl Value {
         )
     }
 
-    /// Puts the attribute at a place, and gives the place behind it.
+    /// Puts the attribute at a place, and gives the place after it.
     pub fn put(&self, out: &mut [u8], at: usize) -> usize
         requires short { length (shown self.now).value < 2 ^ 16 }
         requires room { at + length (attribute_octets (shown self.now)) ≤ length out.old }

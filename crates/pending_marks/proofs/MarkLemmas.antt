@@ -217,6 +217,20 @@ module _ (old new : Flags) (p : IpPrefix) (set : IsSet old new p true) (there : 
       ∙ sym (ap (λ (t : Bool). cond t (set_of.len (marked_in old)) (set_of.len (marked_in old) + 1)) (marked_is old p ∙ off))
       ∙ sym (ap (λ (s : set_of.FinSet prefix_cmp). set_of.len s) (marked_more old new p true set refl) ∙ set_of.len-insert prefix_total (marked_in old) p)
 
+  -- where the flag was set already, nothing changes
+  pub marks_still : flag_of old p ≡ true → marks_in new ≡ marks_in old
+  marks_still on = marks ∙ sym (marked_again (marks_in old) p (marked_is old p ∙ on))
+
+  pub are_still : (count : ℕ) (low : Option IpPrefix) → flag_of old p ≡ true → tree.IsOrdered prefix_cmp new → AreMarks old count low → AreMarks new count low
+  are_still count low on ordered are = record {
+    ordered = ordered;
+    counted = are.counted ∙ ap (λ (m : MarksOf). set_of.len m.marked) (sym (marks_still on));
+    below = λ q set'. are.below q (was q set' (eq_by_cmp prefix_cmp p q) refl);
+  } where
+    was : (q : IpPrefix) → flag_of new q ≡ true → (t : Bool) → eq_by_cmp prefix_cmp p q ≡ t → flag_of old q ≡ true
+    was q set' true tied = subst (λ (r : IpPrefix). flag_of old r ≡ true) (tied_same p q tied) on
+    was q set' false apart = set_before old new p true set q set' apart
+
   pub are_marked : (count : ℕ) (low : Option IpPrefix) (l : IpPrefix) → flag_of old p ≡ false → tree.IsOrdered prefix_cmp new → AreMarks old count low
       → IfSome low (λ k. prefix_cmp k l ≡ Less → ⊥) → (prefix_cmp p l ≡ Less → ⊥) → AreMarks new (count + 1) (Some l)
   are_marked count low l off ordered are first second = record {

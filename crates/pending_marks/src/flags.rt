@@ -1,6 +1,6 @@
 //! A flag for each opened prefix.
 
-ghost use Rattle.std.specs.Prelude.{◌≡◌, Some, IsSome, if◌then◌else◌};
+ghost use Rattle.std.specs.Prelude.{◌≡◌, true, not, Some, IsSome, if◌then◌else◌};
 ghost use Rattle.std.specs.BTreeMap as tree;
 ghost use Rattle.std.specs.BTreeMap.{IsOrdered};
 ghost use Rattle.std.specs.Ordering.{eq_by_cmp};
@@ -31,6 +31,22 @@ pub fn set_flag(flags: &mut BTreeMap<Prefix, bool>, p: Prefix, value: bool)
     if let Some(flag) = flags.get_mut(&p) {
         *flag = value;
     }
+}
+
+/// Sets the flag of an opened prefix to true, by one look-up. Answers whether it was false.
+pub fn raise_flag(flags: &mut BTreeMap<Prefix, bool>, p: Prefix) -> bool
+    requires { IsSome (tree.get prefix_cmp flags.old p) }
+    ensures raised { result ≡ not (flag_of flags.old p) }
+    ensures set { (q : IpPrefix) → tree.get prefix_cmp flags.new q
+        ≡ (if eq_by_cmp prefix_cmp p q then Some true else tree.get prefix_cmp flags.old q) }
+    ensures ordered { IsOrdered prefix_cmp flags.new }
+{
+    let Some(flag) = flags.get_mut(&p) else {
+        unreachable!()
+    };
+    let before = *flag;
+    *flag = true;
+    !before
 }
 
 /// The first prefix from this one on whose flag is set.

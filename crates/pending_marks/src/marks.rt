@@ -7,7 +7,7 @@ ghost use Rattle.rcp_base.specs.IpPrefix.{prefix_cmp};
 ghost use Rattle.rcp_model.specs.Assigned.{IsLeast};
 ghost use Rattle.pending_marks.specs.Marks.{no_marks, is_opened, is_marked};
 
-use crate::flags::{first_from, flag, set_flag};
+use crate::flags::{first_from, flag, raise_flag, set_flag};
 use rcp_base::{NoMemory, Prefix};
 use std::alloc::Global;
 use std::collections::BTreeMap;
@@ -74,18 +74,16 @@ impl PendingMarks {
         self.flags.contains_key(&p)
     }
 
-    /// Marks an opened prefix. Nothing changes where it is marked already. It takes no memory, and about the logarithm of
-    /// the number of opened prefixes.
+    /// Marks an opened prefix. Nothing changes where it is marked already. It takes no memory, and one look-up.
     pub fn mark(&mut self, p: Prefix)
         requires { is_opened self.old p ≡ true }
         ensures { self.new ≡ record self.old { marked = set_of.insert self.old.marked p } }
     {
-        if flag(&self.flags, p) {
-            return;
-        }
         // There are no more marks than prefixes, which are counted.
         let _opened = self.flags.len();
-        set_flag(&mut self.flags, p, true);
+        if !raise_flag(&mut self.flags, p) {
+            return;
+        }
         self.count += 1;
         self.low = Some(lower_of(self.low, p));
     }

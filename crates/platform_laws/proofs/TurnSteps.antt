@@ -91,7 +91,7 @@ keep-connection es number h = by_found (get_at same_number number es) (keep-at e
   by_found None h = tt
   by_found (Some s) h = (h, tt)
 
--- ---- what sessions tell
+-- ---- what sessions report
 
 simple-in_form : (roster : RosterOf) (input : Input) (es : Connections) → BringsOctets input → KeepOctets es → AllByRecursion (IsTurnInForm roster.as_number) (map (simple_turn roster input) es)
 simple-in_form roster input [] brings h = tt

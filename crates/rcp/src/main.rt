@@ -3,11 +3,10 @@
 //! It ends with the code of the status of its run, and says a status other than 0 in one line on standard error.
 #![tactic(auto)]
 
-mod standard;
 mod steps;
 
 use rcp_run::Status;
-use standard::{ReaderSource, WriterSink};
+use standard_streams::{ReaderSource, WriterSink};
 use std::io;
 use std::io::{BufReader, BufWriter};
 use std::process::ExitCode;

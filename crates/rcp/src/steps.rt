@@ -5,9 +5,9 @@ ghost use Rattle.std.specs.Prelude.{◌≡◌, ◌<◌, ◌⊎◌, true};
 ghost use Rattle.outside.specs.Told.{Rose};
 ghost use Rattle.rcp.specs.Flushes.{says_all_written};
 
-use crate::standard::WriterSink;
 use outside::Source;
 use rcp_run::{Status, run};
+use standard_streams::WriterSink;
 use std::alloc::Global;
 use std::io::{ErrorKind, Write};
 use std::rt::Env;
@@ -52,11 +52,11 @@ pub fn run_words<R: Threads + Sync, S: Source, W: Write>(
 /// Done, Feed, Roster and Read, and the status is Write.
 fn flushed<W: Write>(status: Status, sink: &mut WriterSink<W>) -> Status
     // Write stands only where it stood before, or where the sink failed in the flush.
-    ensures cause { result ≡ Status.Write → (status ≡ Status.Write) ⊎ Rose (sink.old.faults) (sink.new.faults) }
+    ensures cause { result ≡ Status.Write → (status ≡ Status.Write) ⊎ Rose (sink.old) (sink.new) }
 
     // It takes the place only of a status that says that all output was written, and does so where the flush failed.
     ensures kept { (result ≡ status) ⊎ ((says_all_written status ≡ true) × (result ≡ Status.Write)) }
-    ensures lost { sink.old.faults < sink.new.faults → says_all_written status ≡ true → result ≡ Status.Write }
+    ensures lost { sink.old < sink.new → says_all_written status ≡ true → result ≡ Status.Write }
 {
     match (status, sink.flush()) {
         (Status::Done | Status::Feed { .. } | Status::Roster { .. } | Status::Read, Err(_)) => {

@@ -42,14 +42,14 @@ cut-append size piece more front some =
     let after : drop (length piece) (piece ++ more) ≡ more = drop_at piece more (length piece) refl in
     cut-front size (length piece) (piece ++ more) front some (omega (arith, length-append piece more)) ∙ rw (first, after) refl
 
--- ---- what a function that tells a length may keep
+-- ---- what a function that gives a length may keep
 
--- Every length that it tells is positive, and within the octets.
+-- Every length that it gives is positive, and within the octets.
 pub record IsSize (size : List ℕ → Option ℕ) : Type 0 where
   pub positive : (octets : List ℕ) (n : ℕ) → size octets ≡ Some n → 0 < n
   pub within : (octets : List ℕ) (n : ℕ) → size octets ≡ Some n → n ≤ length octets
 
--- It tells the same whatever stands after the piece.
+-- It gives the same whatever stands after the piece.
 pub record IsLocal (size : List ℕ → Option ℕ) : Type 0 where
   pub anyway : (piece more other : List ℕ) → size (piece ++ more) ≡ Some (length piece) → size (piece ++ other) ≡ Some (length piece)
 
@@ -59,7 +59,7 @@ pub record IsFront (size : List ℕ → Option ℕ) (piece : List ℕ) : Type 0 
 
 -- ---- what a cut is: a law by cases on the pieces
 
--- The octets are these pieces, each of the length that is told where it stands in front, and then a rest in which none stands in front.
+-- The octets are these pieces, each of the length that is given where it stands in front, and then a rest in which none stands in front.
 abbrev pub IsCut : (List ℕ → Option ℕ) → List ℕ → List (List ℕ) → List ℕ → Type 0
 IsCut size octets [] rest = (octets ≡ rest) × ((octets ≡ []) ⊎ (size octets ≡ None))
 IsCut size octets (piece ∷ pieces) rest = (more : List ℕ) × (octets ≡ piece ++ more) × (size octets ≡ Some (length piece)) × IsCut size more pieces rest
@@ -114,7 +114,7 @@ module _ (size : List ℕ → Option ℕ) (ok : IsSize size) where
   pub cut-rest : (octets : List ℕ) → ((cut size octets).1 ≡ []) ⊎ (size (cut size octets).1 ≡ None)
   cut-rest octets = rest_stops (cut size octets).0 octets (cut size octets).1 (cut_is octets)
 
-  -- each piece has the length that is told where it stands in front of something
+  -- each piece has the length that is given where it stands in front of something
   pub pieces_in_front : (pieces : List (List ℕ)) (octets rest : List ℕ) → IsCut size octets pieces rest
       → AllByRecursion (λ piece. (more : List ℕ) × (size (piece ++ more) ≡ Some (length piece))) pieces
   pieces_in_front [] octets rest h = tt
@@ -174,7 +174,7 @@ module _ (size : List ℕ → Option ℕ) (ok : IsSize size) where
     pub pieces_are_fronts : (octets : List ℕ) → AllByRecursion (IsFront size) (cut size octets).0
     pieces_are_fronts octets = all_in_front (cut size octets).0 (cut-pieces octets)
 
-    -- octets that come later are put behind the rest: they change no piece that is whole
+    -- octets that come later are put after the rest: they change no piece that is whole
     pub cut-later : (octets later : List ℕ) → cut size (octets ++ later) ≡ ((cut size octets).0 ++ (cut size ((cut size octets).1 ++ later)).0, (cut size ((cut size octets).1 ++ later)).1)
     cut-later octets later =
         ap (λ (o : List ℕ). cut size (o ++ later)) (cut-whole octets)

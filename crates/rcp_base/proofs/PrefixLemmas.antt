@@ -51,7 +51,7 @@ prefix_at-cons len rest le long =
     let there : leb (octets_for len) (length rest) ≡ true = le-leb _ _ long in
     rw (short, there) refl
 
--- octets that hold so many bits are the address behind the length, whatever follows them
+-- octets that hold so many bits are the address after the length, whatever follows them
 taken : (len : ℕ) (octets more : List ℕ) → len ≤ 32 → length octets ≡ octets_for len → prefix_at (len ∷ octets ++ more) ≡ Some (record { addr = masked (address_of_octets octets) len; len = len }, 1 + octets_for len)
 taken len octets more le count =
     prefix_at-cons len (octets ++ more) le (omega (arith, length-append octets more))

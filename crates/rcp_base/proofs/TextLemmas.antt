@@ -102,7 +102,7 @@ pub no_number : (text : List ℕ) (r : Option ℕ) → r ≡ number_of text → 
 no_number text (Some n) e = tt
 no_number text None e = λ n fits is. none-some n (e ∙ ap number_of is ∙ number_of-decimal n fits)
 
--- ---- what `ok` of a result tells
+-- ---- what `ok` of a result says
 
 pub ok_gives : {X E : Type 0} (P : X → Type 0) (Q : E → Type 0) (r : Result X E) (x : X) → result_ok r ≡ Some x → MatchResult r P Q → P x
 ok_gives P Q (Ok y) x e h = subst P (same_Some y x e) h

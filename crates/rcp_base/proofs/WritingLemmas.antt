@@ -1,4 +1,4 @@
--- Texts that are written one behind the other.
+-- Texts that are written one after the other.
 use Rattle.std.proofs.Common.{◌≡◌, ℕ, ◌+◌, ◌/◌, ◌%◌, ◌^◌, ◌<◌, ◌≤◌, List, [], ◌∷◌, ◌++◌, length, take, drop, refl, sym, ap, ◌∙◌, arith, append_assoc, add-one, zero-add}
 use Rattle.std.proofs.Math.ListN.{set}
 use Rattle.std.specs.Fmt.{decimal}
@@ -50,7 +50,7 @@ put_more n place out new le fits room is len =
 pub short : (n : ℕ) → n < 256 → length (decimal n) ≤ 3
 short n lt = length-decimal-le 3 n (omega arith) (omega arith) (omega arith)
 
--- one more text, behind what was written from the front on
+-- one more text, after what was written from the front on
 goes_on : (out was now t u : List ℕ) (place : ℕ) → was ≡ written_at 0 t out → place ≡ length t → now ≡ written_at place u was → length t + length u ≤ length out → now ≡ written_at 0 (t ++ u) out
 goes_on out was now t u place first at second room =
     second ∙ ap (written_at place u) first ∙ ap (λ (n : ℕ). written_at n u (written_at 0 t out)) (at ∙ sym (zero-add (length t)))

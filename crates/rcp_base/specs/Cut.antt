@@ -1,7 +1,7 @@
 -- Octets that are pieces, each of which says its own length: messages, prefixes, attributes, segments, records.
 use Rattle.std.specs.Prelude.{ℕ, zero, suc, ◌-◌, List, [], ◌∷◌, take, Option, Some, None}
 
--- The pieces and the rest. `size` tells how many octets the piece in front has, where a whole one stands there;
+-- The pieces and the rest. `size` says how many octets the piece in front has, where a whole one stands there;
 -- `left` is how many octets of the last piece are still to come.
 abbrev pub cut_after : (List ℕ → Option ℕ) → ℕ → List ℕ → List (List ℕ) × List ℕ
 cut_after size left [] = ([], [])

@@ -1,4 +1,4 @@
--- Recorded feeds: records in frames, one behind the other, and the first fault.
+-- Recorded feeds: records in frames, one after the other, and the first fault.
 use Rattle.std.specs.Prelude.{ℕ, zero, suc, ◌+◌, ◌^◌, ◌<◌, ◌≤◌, Bool, true, false, not, ◌&&◌, ◌||◌, ◌==◌, List, [], ◌∷◌, ◌++◌, length, take, drop, filter, slice_index, Option, Some, None, is_none, unwrap_or, Result, Ok, Err, nat_lt, nat_le, if◌then◌else◌}
 use Rattle.std.specs.Int.{w32, w64, to_be_bytes, from_be_bytes}
 use Rattle.rcp_base.specs.Octets.{AreOctets}
@@ -141,7 +141,7 @@ pub record FeedState : Type 0 where
   pub started : Bool
   -- the greatest number of a connection, 0 before the first
   pub last : ℕ
-  -- the connections begun and not ended, in their order
+  -- the open connections, in their order
   pub live : List ℕ
   -- the latest time, 0 before the first
   pub moment : ℕ
@@ -218,13 +218,13 @@ unfoldable pub fault_of : FeedState → FeedRecord → Option FeedWhy
 fault_of state item =
     first_failing ((nat_le (2 ^ 40) state.octets, why.TooLong) ∷ header_checks state item.kind (length item.body) ++ body_checks state item)
 
--- the record in front and the octets behind it, or its first fault
+-- the record in front and the octets after it, or its first fault
 unfoldable pub front : FeedState → List ℕ → Result (FeedRecord × List ℕ) FeedWhy
 front state octets = unless (fault_in_front state octets) (record_in octets, drop (frame_size octets) octets)
 
 -- ---- a whole feed
 
--- The records of a feed, and the state after them. Where the feed has a fault, it is that of the record behind them;
+-- The records of a feed, and the state after them. Where the feed has a fault, it is that of the record after them;
 -- else the last of them is its Z. And the octets that are left.
 pub record Feed : Type 0 where
   pub items : List FeedRecord

@@ -23,7 +23,7 @@ area_id octets = number_at w32 8 octets
 abbrev pub LINK_STATE_UPDATE : ℕ
 LINK_STATE_UPDATE = 4
 
--- the octets of a header, and the least length of a packet: a Link State Update has a count behind it
+-- the octets of a header, and the least length of a packet: a Link State Update has a count after it
 abbrev pub packet_header_len : ℕ
 packet_header_len = 24
 

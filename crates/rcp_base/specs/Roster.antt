@@ -10,7 +10,7 @@ use Rattle.rcp_base.specs.Text.{number_of, address_of}
 
 -- ---- lines and words
 
--- lines end by octet 10; the last may lack it, so nothing stands behind the last octet 10
+-- lines end by octet 10; the last may lack it, so nothing stands after the last octet 10
 abbrev pub without_last_empty : List (List ℕ) → List (List ℕ)
 without_last_empty [] = []
 without_last_empty ([] ∷ []) = []

@@ -50,7 +50,7 @@ pub enum FeedWhy {
     TooLong = 9,
     /// The source must be 0 and isn't, or is 0 and must not be.
     BadBody = 10,
-    /// 4,096 connections were begun and not ended.
+    /// 4,096 connections were open.
     TooMany = 11,
 }
 

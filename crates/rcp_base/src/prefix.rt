@@ -159,7 +159,7 @@ pub fn octets_are_read_again()
     ensures { (p : IpPrefix) (more : List ℕ) → IsPrefix p → prefix_at (prefix_octets p ++ more) ≡ Some (p, length (prefix_octets p)) }
 {}
 
-/// No prefix's octets begin another's: the octets tell the prefix, and where it ends.
+/// No prefix's octets begin another's: the octets give the prefix, and where it ends.
 pub fn octets_tell_the_prefix()
     ensures { (p q : IpPrefix) (x y : List ℕ) → IsPrefix p → IsPrefix q → prefix_octets p ++ x ≡ prefix_octets q ++ y → (p ≡ q) × (x ≡ y) }
 {}

@@ -1,4 +1,4 @@
--- What a session does for the route control server: it tells routes and prefixes in form, keeps its seat, and sends no UPDATE.
+-- What a session does for the route control server: it reports routes and prefixes in form, keeps its seat, and sends no UPDATE.
 use Rattle.std.proofs.Common.{◌≡◌, ℕ, ◌<◌, ◌/◌, Bool, true, false, cond, inl, inr, List, [], ◌∷◌, ◌++◌, map, drop, Option, Some, None, refl, sym, ap, ◌∙◌, subst, arith, eqb}
 use Rattle.std.specs.Prelude.{is_some, unwrap_or}
 use Rattle.std.specs.List.{list_any, AllByRecursion}
@@ -34,7 +34,7 @@ is_up Up = true
 is_up (Announce p route) = false
 is_up (Withdraw p) = false
 
--- what is told while the connected slot goes from one to another
+-- what is reported while the connected slot goes from one to another
 abbrev pub Shape : Option ℕ → Option ℕ → List SessionEvent → Type 0
 Shape None None events = events ≡ []
 Shape None (Some slot) events = (changes : List SessionEvent) × (events ≡ Up ∷ changes) × (list_any is_up changes ≡ false)
@@ -126,7 +126,7 @@ module _ (as_number : ℕ) where
   goes-failed : (phase : Phase) (why : FaultOf) → Goes as_number phase (failed why).does Closed
   goes-failed phase why = goes-ended phase _ _
 
-  -- nothing is told, and the seat and the slot stay
+  -- nothing is reported, and the seat and the slot stay
   goes-sent : (phase next : Phase) (sent : List (List ℕ)) → is_closed next ≡ false → seat_of next ≡ seat_of phase → slot_in next ≡ slot_in phase → AllByRecursion IsQuiet sent
       → Goes as_number phase (record nothing { sent = sent }) next
   goes-sent phase next sent open_ seat slot quiet = record {
@@ -341,7 +341,7 @@ goes-octets roster piece now session open_ kept octets =
     subst (λ (a : Answer). Goes roster.as_number session.phase a.does a.after.phase) (sym (answer-octets roster piece now session open_))
     (goes-course roster (moment_in session now) (session.kept ++ piece) session.phase open_ (All-append (λ o. o < 256) session.kept piece kept octets))
 
--- the session of a slot from the moment that it has its seat
+-- the session of a slot from when it has its seat on
 abbrev pub seated_peering : ℕ → Negotiated → ℕ → Peering
 seated_peering slot terms now = record { slot = slot; negotiated = terms; read = now; sent = now }
 
@@ -355,7 +355,7 @@ module _ (roster : RosterOf) (now : ℕ) (session : SessionState) (since slot : 
       let peering = seated_peering slot terms (moment_in session now) in
       subst (λ (a : Answer). Goes roster.as_number (OpenConfirm peering) a.does a.after.phase) (sym (answer-claiming true)) (goes-seated roster (moment_in session now) session.kept peering kept)
 
-  -- a seat that is taken ends the session, and nothing is told
+  -- a seat that is taken ends the session, and nothing is reported
   pub goes-seat-taken : ((answer roster (Seat false now) session).after.phase ≡ Closed) × ((answer roster (Seat false now) session).does.events ≡ []) × ((answer roster (Seat false now) session).does ≡ seat_taken.does)
   goes-seat-taken =
       let same = answer-claiming false in

@@ -1,4 +1,4 @@
--- What a session keeps and tells, whatever comes: octets, and events in form.
+-- What a session keeps and reports, whatever comes: octets, and events in form.
 use Rattle.std.proofs.Common.{◌≡◌, ℕ, ◌<◌, Bool, true, false, inl, inr, List, [], ◌∷◌, ◌++◌, length, Option, Some, None, refl, sym, subst, drop_at}
 use Rattle.std.specs.List.{concat, AllByRecursion}
 use Rattle.std.proofs.lemmas.Bool.{cases_Bool, cond_both}
@@ -39,7 +39,7 @@ kept-rest rest Closed does unread all each = All-nil (λ o. o < 256)
 kept-stepped : (now : ℕ) (kept : List ℕ) (taken : Step) → AreOctets kept → AreOctets (stepped now kept taken).after.kept
 kept-stepped now kept taken all = cond_both (is_closed taken.phase) [] kept AreOctets (λ _. All-nil (λ o. o < 256)) (λ _. all)
 
--- an answer keeps octets, and tells what is in form
+-- an answer keeps octets, and reports what is in form
 record IsGood (as_number : ℕ) (a : Answer) : Type 0 where
   kept : AreOctets a.after.kept
   told : AllByRecursion (IsTold as_number) a.does.events

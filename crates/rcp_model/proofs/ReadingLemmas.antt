@@ -47,13 +47,13 @@ pub header_fault-None : (octets : List ℕ) → AllByRecursion HasPassed (header
 unfolding header_fault
 header_fault-None octets each = first_failing-None (header_checks octets) each
 
--- a header without a fault tells a length of 19 to 4096
+-- a header without a fault has a length of 19 to 4096
 pub faultless_length : (octets : List ℕ) → header_fault octets ≡ None → (19 ≤ length_field octets) × (length_field octets ≤ 4096)
 faultless_length octets e =
     let bounds = or_parts (ltb (length_field octets) 19) (ltb 4096 (length_field octets)) (header_passes octets e).1.0 in
     (ltb-false _ _ bounds.0, ltb-false _ _ bounds.1)
 
--- ---- the length that is told
+-- ---- the length in a header
 
 pub message_size-from : (octets : List ℕ) → 19 ≤ length octets → header_fault octets ≡ None → length_field octets ≤ length octets → message_size octets ≡ Some (length_field octets)
 unfolding message_size
@@ -62,7 +62,7 @@ message_size-from octets long faultless within =
     let all : leb (length_field octets) (length octets) ≡ true = le-leb _ _ within in
     rw (header, faultless, all) refl
 
--- where a length is told, the header is there and faultless, and so is all the message
+-- where a header gives a length, it is there and faultless, and so is all the message
 pub record HasMessage (octets : List ℕ) (n : ℕ) : Type 0 where
   pub has_header : 19 ≤ length octets
   pub faultless : header_fault octets ≡ None

@@ -175,7 +175,7 @@ module _ (roster : RosterOf) (now : ℕ) where
       ∙ sym (ap (preceded nothing) (course-claiming ((concat (message ∷ messages) ++ rest) ++ more) since slot terms))
   continues (message ∷ messages) rest more Closed = sym (ap (preceded nothing) (course-closed more))
 
-  -- octets that come later are read behind those that were kept
+  -- octets that come later are read after those that were kept
   pub course-later : (octets more : List ℕ) (phase : Phase)
       → course_of roster now (octets ++ more) phase
       ≡ preceded (course_of roster now octets phase).does (course_of roster now ((course_of roster now octets phase).kept ++ more) (course_of roster now octets phase).phase)

@@ -1,4 +1,4 @@
--- What is told of a router: of octets, a faultless UPDATE gives prefixes in form, and a route that is that of its canonical octets.
+-- What a session reports of a router: of octets, a faultless UPDATE gives prefixes in form, and a route that is that of its canonical octets.
 use Rattle.std.proofs.Common.{◌≡◌, ℕ, ◌<◌, not, ◌&&◌, List, [], ◌∷◌, map, drop, Option, Some, None, refl, sym, subst}
 use Rattle.std.specs.List.{All, AllByRecursion}
 use Rattle.std.proofs.lemmas.List.Elements.{All-take, All-drop}
@@ -70,7 +70,7 @@ route-of_octets : (as_number : ℕ) (list : List Attribute) → AllByRecursion I
 unfolding route_of
 route-of_octets as_number list short = record { fields = sym (route_again list short number_width as_number); canonical = canonical_octets_again list short }
 
--- what the octets of a faultless UPDATE tell
+-- what the octets of a faultless UPDATE give
 pub told-changes : (as_number : ℕ) (body : List ℕ) → AreOctets body → update_fault number_width body ≡ None → AllByRecursion (IsTold as_number) (changes_events as_number (changes_of body))
 told-changes as_number body all faultless =
     let changes = changes_of body in

@@ -15,7 +15,7 @@ use Rattle.rcp_model.proofs.SectionLemmas.{prefixes_in-written, prefixes_fault-w
 
 -- ---- one section
 
--- octets behind their length
+-- octets after their length
 abbrev pub measured : List ℕ → List ℕ
 measured octets = to_be_bytes w16 (length octets) ++ octets
 

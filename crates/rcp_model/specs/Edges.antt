@@ -48,6 +48,6 @@ abbrev pub rising_edges : List Edge → List Edge
 rising_edges [] = []
 rising_edges (a ∷ edges) = include_edge a (rising_edges edges)
 
--- the edges that the link state tells of and those of the roster
+-- the edges of the link state and those of the roster
 unfoldable pub edges_of : LinkState → List Edge → List Edge
 edges_of state fixed = rising_edges (learned state ++ fixed)

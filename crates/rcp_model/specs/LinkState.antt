@@ -13,7 +13,7 @@ max_age_diff = 900
 abbrev pub most_routers : ℕ
 most_routers = 2048
 
--- what tells instances of one LSA apart; the age in seconds
+-- what distinguishes instances of one LSA; the age in seconds
 pub record LsaHeader : Type 0 where
   pub sequence : ℤ
   pub checksum : ℕ

@@ -1,4 +1,4 @@
--- The LSAs of a Link State Update (RFC 2328 section A.3.5): a count behind the header, and the LSAs one after another.
+-- The LSAs of a Link State Update (RFC 2328 section A.3.5): a count after the header, and the LSAs one after another.
 use Rattle.std.specs.Prelude.{ℕ, Bool, List, length, take, drop, nat_lt, Option, Some, None, if◌then◌else◌}
 use Rattle.std.specs.Int.{w32}
 use Rattle.rcp_base.specs.Octets.{number_at}
@@ -20,7 +20,7 @@ lsa_len octets =
     else if nat_lt (length octets) (lsa_length octets) then None
     else Some (lsa_length octets)
 
--- LSAs, and whether the octets were too short for a further one that was counted. What is behind the last is ignored.
+-- LSAs, and whether the octets were too short for a further one that was counted. What follows the last is ignored.
 pub record Walked : Type 0 where
   pub lsas : List (List ℕ)
   pub short : Bool

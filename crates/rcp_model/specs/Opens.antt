@@ -12,7 +12,7 @@ pub record OpenFields : Type 0 where
   pub hold : ℕ
   pub id : ℕ
 
--- ---- the body: version, My Autonomous System, hold time, BGP Identifier, and optional parameters behind their length
+-- ---- the body: version, My Autonomous System, hold time, BGP Identifier, and optional parameters after their length
 
 abbrev pub VERSION : ℕ
 VERSION = 4

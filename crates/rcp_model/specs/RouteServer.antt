@@ -11,7 +11,7 @@ use Rattle.rcp_model.specs.LinkState.{same_number}
 use Rattle.rcp_model.specs.Costs.{cost}
 use Rattle.rcp_model.specs.Decision.{Contender, contender, choice}
 
--- what the server is told once: its AS number, and the routers by slot
+-- the server's configuration: its AS number, and the routers by slot
 pub record Domain : Type 0 where
   pub as_number : ℕ
   pub members : List Member

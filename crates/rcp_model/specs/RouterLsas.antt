@@ -49,7 +49,7 @@ link_len octets = 12 + 4 * slice_index octets 9
 abbrev pub link_of : List ℕ → RouterLink
 link_of octets = record { id = number_at w32 0 octets; kind = slice_index octets 8; metric = number_at w16 10 octets }
 
--- the link in front and the octets behind it
+-- the link in front and the octets after it
 abbrev pub link_at : List ℕ → Option (RouterLink × List ℕ)
 link_at octets =
     if nat_lt (length octets) 12 then None

@@ -1,4 +1,4 @@
--- Sessions (RFC 4271 sections 6 and 8): the states of a connection with a router, and what messages and moments do in them.
+-- Sessions (RFC 4271 sections 6 and 8): the states of a connection with a router, and what messages and times do in them.
 use Rattle.std.specs.Prelude.{ℕ, ◌-◌, ◌/◌, Bool, true, false, ◌==◌, List, [], ◌∷◌, ◌++◌, length, drop, map, slice_index, position, min, max, Option, Some, None, unwrap_or, is_some, nat_le, if◌then◌else◌}
 use Rattle.std.specs.List.{concat}
 use Rattle.rcp_base.specs.IpPrefix.{IpPrefix}
@@ -10,7 +10,7 @@ use Rattle.rcp_model.specs.Routes.{RouteFields, route_of}
 use Rattle.rcp_model.specs.Updates.{Changes, update_fault, changes_of}
 use Rattle.rcp_base.specs.Roster.{RosterOf}
 
--- ---- the states (section 8.2.2). Moments are in seconds.
+-- ---- the states (section 8.2.2). Times are in seconds.
 
 -- what the OPENs of both ends came to: the hold time, 0 where there are no timers
 pub record Negotiated : Type 0 where
@@ -23,7 +23,7 @@ pub record Peering : Type 0 where
   pub read : ℕ
   pub sent : ℕ
 
--- OpenSent since a moment; Claiming, between OpenSent and OpenConfirm, since that moment, with a claim on the seat of the router
+-- OpenSent since a time; Claiming, between OpenSent and OpenConfirm, since that time, with a claim on the seat of the router
 -- that sent the OPEN; OpenConfirm; Established; and closed for good
 pub data Phase : Type 0 where
   OpenSent : ℕ → Phase
@@ -53,7 +53,7 @@ abbrev pub slot_in : Phase → Option ℕ
 slot_in (Established peering) = Some peering.slot
 slot_in phase = None
 
--- the octets that came and belong to no message that was read, and the latest moment that was given
+-- the octets that came and belong to no message that was read, and the latest time that was given
 pub record SessionState : Type 0 where
   pub phase : Phase
   pub kept : List ℕ
@@ -120,7 +120,7 @@ step phase does = record { phase = phase; does = does }
 
 -- ---- ends
 
--- A fault is told in a NOTIFICATION and closes the session (section 6).
+-- A fault is sent in a NOTIFICATION and closes the session (section 6).
 abbrev pub closing : Reason → FaultOf → Doing
 closing reason why = record nothing { sent = notification_octets why ∷ []; closed = Some (ending reason why.code why.sub) }
 
@@ -194,7 +194,7 @@ updated roster peering body = elim (update_fault number_width body) [
 abbrev pub read_at : ℕ → Peering → Peering
 read_at now peering = record peering { read = now }
 
--- One message that is read at a moment: what each state takes (section 8.2.2).
+-- One message that is read at a time: what each state takes (section 8.2.2).
 unfoldable pub handle : RosterOf → ℕ → List ℕ → Phase → Step
 handle roster now message (OpenSent since) =
     if type_field message == OPEN then opened roster since (body_of message) else (
@@ -246,7 +246,7 @@ with_rest rest Closed does unread = record { phase = Closed; kept = []; does = d
 with_rest rest (Claiming since slot terms) does unread = record { phase = Claiming since slot terms; kept = concat unread ++ rest; does = does }
 with_rest rest phase does unread = with_fault rest (fault_in_front rest) phase does
 
--- the octets read at a moment, from a phase on
+-- the octets read at a time, from a phase on
 unfoldable pub course_of : RosterOf → ℕ → List ℕ → Phase → Course
 course_of roster now octets phase =
     let handled = handle_all roster now (messages_in octets) phase in
@@ -254,7 +254,7 @@ course_of roster now octets phase =
 
 -- ---- timers (sections 8.1.3 and 10)
 
--- so many seconds have passed since a moment
+-- so many seconds have passed since a time
 abbrev pub has_passed : ℕ → ℕ → ℕ → Bool
 has_passed seconds since now = nat_le seconds (now - since)
 
@@ -282,7 +282,7 @@ tick now Closed = step Closed nothing
 
 -- ---- what comes to a session
 
--- octets at a moment; the answer to its claim, that the seat is free or not; a moment alone; the connection's end
+-- octets at a time; the answer to its claim, that the seat is free or not; a time alone; the connection's end
 pub data Input : Type 0 where
   Octets : List ℕ → ℕ → Input
   Seat : Bool → ℕ → Input
@@ -294,7 +294,7 @@ pub record Answer : Type 0 where
   pub after : SessionState
   pub does : Doing
 
--- A moment below the latest one counts as that one.
+-- A time below the latest one counts as that one.
 abbrev pub moment_in : SessionState → ℕ → ℕ
 moment_in session now = max session.latest now
 

@@ -1,4 +1,4 @@
--- What a session tells of its router: routes that are those of their octets, and prefixes in form.
+-- What a session reports of its router: routes that are those of their octets, and prefixes in form.
 use Rattle.std.specs.Prelude.{◌≡◌, ℕ}
 use Rattle.rcp_base.specs.IpPrefix.{IsPrefix}
 use Rattle.rcp_base.specs.Octets.{AreOctets}

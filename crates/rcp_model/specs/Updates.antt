@@ -20,7 +20,7 @@ pub record Sections : Type 0 where
 abbrev pub leading_number : List ℕ → ℕ
 leading_number octets = from_be_bytes w16 (take 2 octets)
 
--- the octets after a section, of which the first two tell the length
+-- the octets after a section, of which the first two are the length
 abbrev pub after_section : List ℕ → List ℕ
 after_section octets = drop (2 + leading_number octets) octets
 

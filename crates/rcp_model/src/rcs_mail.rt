@@ -1,4 +1,4 @@
-//! What a shard is told by the sessions and by the viewer.
+//! What the sessions and the viewer send to a shard.
 
 use crate::route::Route;
 use rcp_base::{Prefix, Slot};

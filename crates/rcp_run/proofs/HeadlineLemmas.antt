@@ -22,7 +22,7 @@ use Rattle.rcp_run.proofs.FrameLemmas.{outs-again}
 
 -- ---- the first of some records
 
-output-append : (platform : Platform) (items more : List FeedRecord) → all_output platform (items ++ more) ≡ all_output platform items ++ all_output (platform_after platform items) more
+pub output-append : (platform : Platform) (items more : List FeedRecord) → all_output platform (items ++ more) ≡ all_output platform items ++ all_output (platform_after platform items) more
 unfolding platform_after all_output
 output-append platform [] more = refl
 output-append platform (item ∷ items) more =

@@ -24,8 +24,8 @@ use Rattle.rcp_run.specs.Commands.{state_after, second_meaning, end_of_two, repo
 use Rattle.rcp_run.specs.Tables.{tables_text}
 use Rattle.rcp_run.specs.Reports.{replica_on, LeadsTo, ReportCause, WroteReport}
 use Rattle.rcp_run.specs.Making.{seen_replica, IsPathOn, IsRefusedOn, IsAgreementOf, IsMade, IsUnmade, RefusesFor, MadeCause}
-use Rattle.rcp_run.specs.declared.command.Report.{Report}
-use Rattle.rcp_run.specs.declared.command.Report.TheVariants as report
+use Rattle.rcp_words.specs.declared.command.Report.{Report}
+use Rattle.rcp_words.specs.declared.command.Report.TheVariants as report
 use Rattle.rcp_run.proofs.AskedLemmas.{network-asked, replica-asked}
 
 -- ---- the first feed

@@ -2,6 +2,8 @@ pub mod Commands
 pub mod Headline
 pub mod Tables
 pub mod Entries
+pub mod Trials
+pub mod Generated
 pub mod Reports
 pub mod Making
 pub mod Turns

@@ -20,8 +20,8 @@ use Rattle.replica_law.specs.Replicas.{Replica, replica_of, AreAnswers}
 use Rattle.replica_law.specs.Texts.{answers_text}
 use Rattle.rcp_run.specs.Commands.{report_end, report_left}
 use Rattle.rcp_run.specs.Reports.{IsReportText, IsRefusedReport, path_line}
-use Rattle.rcp_run.specs.declared.command.Report.{Report}
-use Rattle.rcp_run.specs.declared.command.Report.TheVariants as report
+use Rattle.rcp_words.specs.declared.command.Report.{Report}
+use Rattle.rcp_words.specs.declared.command.Report.TheVariants as report
 
 -- ---- the texts of platforms by what is asked of them
 

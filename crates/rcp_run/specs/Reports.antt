@@ -22,10 +22,11 @@ use Rattle.replica_law.specs.Replicas.{Replica, replica_of, AreAnswers}
 use Rattle.replica_law.specs.Texts.{answers_text}
 use Rattle.rcp_run.specs.Commands.{second_meaning}
 use Rattle.rcp_run.specs.Tables.{tables_text}
-use Rattle.rcp_run.specs.declared.command.Command.{Command}
-use Rattle.rcp_run.specs.declared.command.Command.TheVariants as command
-use Rattle.rcp_run.specs.declared.command.Report.{Report}
-use Rattle.rcp_run.specs.declared.command.Report.TheVariants as report
+use Rattle.rcp_run.specs.Generated.{WritesCause}
+use Rattle.rcp_words.specs.declared.command.Command.{Command}
+use Rattle.rcp_words.specs.declared.command.Command.TheVariants as command
+use Rattle.rcp_words.specs.declared.command.Report.{Report}
+use Rattle.rcp_words.specs.declared.command.Report.TheVariants as report
 
 -- ---- what is asked of a platform
 
@@ -132,6 +133,8 @@ ReportCause report status a b c d = Unit {0}
 abbrev pub CommandCause : Command → Status → (source_before source_now sink_before sink_now : ℕ) → Type 0
 CommandCause command.Replay status a b c d = HasCause status a b c d
 CommandCause (command.Report report) status a b c d = ReportCause report status a b c d
+CommandCause (command.Make number) status a b c d = WritesCause status c d
+CommandCause (command.Trial number threads) status a b c d = WritesCause status c d
 
 -- The status that the end of the input asks for. Where `path` has read all of it, there may be no path.
 pub data IsStatusFor : Command → FeedEnd → Status → Type 0 where

@@ -14,9 +14,15 @@ use feed_format::{Out, write_out};
 use feed_run::{FeedRun, Reader, Status};
 use outside::{Failed, Sink, Source};
 use std::alloc::Global;
+use std::thread::Threads;
 
 /// Reads a feed to its end, and writes its output.
-pub fn replay<S: Source, K: Sink>(alloc: Global, source: &mut S, sink: &mut K) -> Status
+pub fn replay<R: Threads + Sync, S: Source, K: Sink>(
+    rt: &R,
+    alloc: Global,
+    source: &mut S,
+    sink: &mut K,
+) -> Status
     ensures cause { HasCause result (S.faults source.old) (S.faults source.new) (K.faults sink.old) (K.faults sink.new) }
     ensures answer { (octets : List ℕ) → S.left source.old ≡ Some octets
         → Answers result octets (S.left source.new) (K.taken sink.old) (K.taken sink.new) }
@@ -26,14 +32,19 @@ pub fn replay<S: Source, K: Sink>(alloc: Global, source: &mut S, sink: &mut K) -
         Err(status) => return status,
     };
     loop {
-        if let Some(status) = turn(&mut run, source, sink) {
+        if let Some(status) = turn(rt, &mut run, source, sink) {
             return status;
         }
     }
 }
 
 /// Reads the next record and writes its output. None where the feed goes on.
-fn turn<S: Source, K: Sink>(run: &mut FeedRun, source: &mut S, sink: &mut K) -> Option<Status>
+fn turn<R: Threads + Sync, S: Source, K: Sink>(
+    rt: &R,
+    run: &mut FeedRun,
+    source: &mut S,
+    sink: &mut K,
+) -> Option<Status>
     requires { IsGoing run.old }
     ensures going { IfNone result (IsGoing run.new) }
     ensures further { IfNone result (run.old.reader.octets < run.new.reader.octets) }
@@ -45,7 +56,7 @@ fn turn<S: Source, K: Sink>(run: &mut FeedRun, source: &mut S, sink: &mut K) -> 
     ensures source_never_falls { NeverFalls (S.faults source.old) (S.faults source.new) }
     ensures sink_never_falls { NeverFalls (K.faults sink.old) (K.faults sink.new) }
 {
-    match run.next(source) {
+    match run.next(rt, false, source) {
         Ok(None) => Some(Status::Done),
         Ok(Some(outs)) => match write_outs(&outs, sink) {
             Ok(()) => None,

@@ -7,20 +7,22 @@ ghost use Rattle.feed_run.specs.Going.{HasCounts, ReadsSo};
 ghost use Rattle.rcp_run.specs.Commands.{report_end, report_left};
 ghost use Rattle.rcp_run.specs.Reports.{ReportCause, WroteReport, path_line};
 ghost use Rattle.rcp_run.specs.Making.{IsMade, IsUnmade, MadeCause, IsPathOn, IsRefusedOn, IsAgreementOf, FollowsFeed};
-ghost use Rattle.rcp_run.specs.declared.command.Report.TheVariants as report;
+ghost use Rattle.rcp_words.specs.declared.command.Report.TheVariants as report;
 
-use crate::command::Report;
 use crate::tables::tables_of;
 use feed_run::{FeedRun, Reader, Status, read_feed};
 use hop_walk::{WalkError, walk};
 use outside::{Sink, Source, write_all};
 use platform_core::Platform;
 use rcp_base::{NoMemory, Prefix, RouterId};
+use rcp_words::Report;
 use replica_law::{agree, text_of};
 use std::alloc::Global;
+use std::thread::Threads;
 
 /// Reads all input of a report, and then writes its text. Nothing is written where there is none.
-pub fn put_report<S: Source, K: Sink>(
+pub fn put_report<R: Threads + Sync, S: Source, K: Sink>(
+    rt: &R,
     alloc: Global,
     report: Report,
     source: &mut S,
@@ -31,7 +33,7 @@ pub fn put_report<S: Source, K: Sink>(
     ensures silent { result ≢ Status.Done → result ≢ Status.Write → K.taken sink.new ≡ K.taken sink.old }
     ensures cause { ReportCause report result (S.faults source.old) (S.faults source.new) (K.faults sink.old) (K.faults sink.new) }
 {
-    let text = match report_of(alloc, report, source) {
+    let text = match report_of(rt, alloc, report, source) {
         Ok(text) => text,
         Err(status) => return status,
     };
@@ -42,25 +44,34 @@ pub fn put_report<S: Source, K: Sink>(
 }
 
 /// The text of a report on the feeds of a source.
-fn report_of<S: Source>(alloc: Global, report: Report, source: &mut S) -> Result<Vec<u8>, Status>
+fn report_of<R: Threads + Sync, S: Source>(
+    rt: &R,
+    alloc: Global,
+    report: Report,
+    source: &mut S,
+) -> Result<Vec<u8>, Status>
     ensures made { IfOk result (λ text. (octets : List ℕ) → S.left source.old ≡ Some octets → IsMade report octets text.items (S.left source.new)) }
     ensures unmade { IfErr result (λ status. (octets : List ℕ) → S.left source.old ≡ Some octets → IsUnmade report octets status (S.left source.new)) }
     ensures cause { IfErr result (λ status. MadeCause report status (S.faults source.old) (S.faults source.new)) }
 {
     match report {
-        Report::Tables => tables(alloc, source),
-        Report::Agree => agreement(alloc, source),
-        Report::Path { router, prefix } => path(alloc, router, prefix, source),
+        Report::Tables => tables(rt, alloc, source),
+        Report::Agree => agreement(rt, alloc, source),
+        Report::Path { router, prefix } => path(rt, alloc, router, prefix, source),
     }
 }
 
 /// The tables after a feed.
-fn tables<S: Source>(alloc: Global, source: &mut S) -> Result<Vec<u8>, Status>
+fn tables<R: Threads + Sync, S: Source>(
+    rt: &R,
+    alloc: Global,
+    source: &mut S,
+) -> Result<Vec<u8>, Status>
     ensures made { IfOk result (λ text. (octets : List ℕ) → S.left source.old ≡ Some octets → IsMade report.Tables octets text.items (S.left source.new)) }
     ensures unmade { IfErr result (λ status. (octets : List ℕ) → S.left source.old ≡ Some octets → IsUnmade report.Tables octets status (S.left source.new)) }
     ensures cause { IfErr result (λ status. MadeCause report.Tables status (S.faults source.old) (S.faults source.new)) }
 {
-    let feed = match read_feed(alloc, Reader::new(alloc), 0, source) {
+    let feed = match read_feed(rt, alloc, Reader::new(alloc), 0, source) {
         Ok(feed) => feed,
         Err(status) => return Err(status),
     };
@@ -71,7 +82,8 @@ fn tables<S: Source>(alloc: Global, source: &mut S) -> Result<Vec<u8>, Status>
 }
 
 /// The path from a router to its egress, after a feed.
-fn path<S: Source>(
+fn path<R: Threads + Sync, S: Source>(
+    rt: &R,
     alloc: Global,
     router: RouterId,
     prefix: Prefix,
@@ -81,7 +93,7 @@ fn path<S: Source>(
     ensures unmade { IfErr result (λ status. (octets : List ℕ) → S.left source.old ≡ Some octets → IsUnmade (report.Path router prefix) octets status (S.left source.new)) }
     ensures cause { IfErr result (λ status. MadeCause (report.Path router prefix) status (S.faults source.old) (S.faults source.new)) }
 {
-    let feed = match read_feed(alloc, Reader::new(alloc), 0, source) {
+    let feed = match read_feed(rt, alloc, Reader::new(alloc), 0, source) {
         Ok(feed) => feed,
         Err(status) => return Err(status),
     };
@@ -143,12 +155,16 @@ fn put_routers(
 }
 
 /// The comparison of two feeds, which follow one another.
-fn agreement<S: Source>(alloc: Global, source: &mut S) -> Result<Vec<u8>, Status>
+fn agreement<R: Threads + Sync, S: Source>(
+    rt: &R,
+    alloc: Global,
+    source: &mut S,
+) -> Result<Vec<u8>, Status>
     ensures made { IfOk result (λ text. (octets : List ℕ) → S.left source.old ≡ Some octets → IsMade report.Agree octets text.items (S.left source.new)) }
     ensures unmade { IfErr result (λ status. (octets : List ℕ) → S.left source.old ≡ Some octets → IsUnmade report.Agree octets status (S.left source.new)) }
     ensures cause { IfErr result (λ status. MadeCause report.Agree status (S.faults source.old) (S.faults source.new)) }
 {
-    let first = match read_feed(alloc, Reader::new(alloc), 0, source) {
+    let first = match read_feed(rt, alloc, Reader::new(alloc), 0, source) {
         Ok(first) => first,
         Err(status) => return Err(status),
     };
@@ -157,14 +173,15 @@ fn agreement<S: Source>(alloc: Global, source: &mut S) -> Result<Vec<u8>, Status
         reader,
         number,
     } = first;
-    match compared(alloc, &platform, reader, number, source) {
+    match compared(rt, alloc, &platform, reader, number, source) {
         Ok(text) => Ok(text),
         Err(status) => Err(status),
     }
 }
 
 /// The comparison of a platform with that of the next feed. `reader` has read `number` records of the feed before it.
-fn compared<S: Source>(
+fn compared<R: Threads + Sync, S: Source>(
+    rt: &R,
     alloc: Global,
     first: &Platform,
     reader: Reader,
@@ -177,7 +194,7 @@ fn compared<S: Source>(
     ensures unmade { IfErr result (λ status. (octets : List ℕ) → FollowsFeed octets first.now reader number (S.left source.old) → IsUnmade report.Agree octets status (S.left source.new)) }
     ensures cause { IfErr result (λ status. MadeCause report.Agree status (S.faults source.old) (S.faults source.new)) }
 {
-    let second = match read_feed(alloc, reader, number, source) {
+    let second = match read_feed(rt, alloc, reader, number, source) {
         Ok(second) => second,
         Err(status) => return Err(status),
     };

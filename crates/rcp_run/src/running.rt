@@ -1,6 +1,6 @@
 //! The run of the program, from its words to its status.
 
-ghost use Rattle.std.specs.Prelude.{◌≡◌, ◌≢◌, ◌↔◌, ◌⊎◌, ◌++◌, ℕ, List, Some, map};
+ghost use Rattle.std.specs.Prelude.{◌≡◌, ◌≢◌, ◌↔◌, ◌⊎◌, ◌++◌, ℕ, Bool, false, List, Some, map};
 ghost use Rattle.outside.specs.Told.{Rose};
 ghost use Rattle.rcp_base.specs.IpPrefix.{IpPrefix};
 ghost use Rattle.rcp_base.specs.Roster.{RosterOf};
@@ -8,20 +8,25 @@ ghost use Rattle.feed_format.specs.declared.status.WalkRefusal.{WalkRefusal};
 ghost use Rattle.feed_meaning.specs.WholeFeeds.{feed_meaning};
 ghost use Rattle.feed_run.specs.Statuses.{EndsSo};
 ghost use Rattle.feed_run.specs.Written.{StopsBy, EndsCut, WroteSo};
-ghost use Rattle.rcp_run.specs.Commands.{StandForNone, StandFor, input_end, input_left};
+ghost use Rattle.rcp_run.specs.Commands.{input_end, input_left, reads_input};
+ghost use Rattle.rcp_run.specs.Generated.{WroteOctets, WroteText};
+ghost use Rattle.rcp_run.specs.Trials.{trial_text};
+ghost use Rattle.rcp_words.specs.Words.{StandForNone, StandFor};
+ghost use Rattle.feed_make.specs.Feeds.{feed_octets};
 ghost use Rattle.rcp_run.specs.Headline.{HeadlineWritten};
 ghost use Rattle.feed_run.specs.Going.{ReadsSo, Answers};
 ghost use Rattle.rcp_run.specs.Reports.{CommandCause, IsStatusFor, WroteReport};
-ghost use Rattle.rcp_run.specs.declared.command.Command.{Command};
-ghost use Rattle.rcp_run.specs.declared.command.Command.TheVariants as command;
-ghost use Rattle.rcp_run.specs.declared.command.Report.{Report};
-ghost use Rattle.rcp_run.specs.declared.command.Report.TheVariants as report;
+ghost use Rattle.rcp_words.specs.declared.command.Command.{Command};
+ghost use Rattle.rcp_words.specs.declared.command.Command.TheVariants as command;
+ghost use Rattle.rcp_words.specs.declared.command.Report.{Report};
+ghost use Rattle.rcp_words.specs.declared.command.Report.TheVariants as report;
 
-use crate::command::Command;
+use crate::generated::{put_feed, put_trial};
 use crate::replay::replay;
 use crate::report::put_report;
 use feed_run::Status;
 use outside::{Sink, Source};
+use rcp_words::Command;
 use std::alloc::Global;
 use std::thread::Threads;
 
@@ -33,8 +38,11 @@ use std::thread::Threads;
 /// | `tables` | reads a feed, and writes the tables of the connected routers and the number of pending prefixes |
 /// | `agree` | reads two feeds, one after the other, and writes a line for each partition of the first: whether it is alike in both, or the first difference |
 /// | `path ROUTER PREFIX` | reads a feed, and writes the routers through which packets for the prefix go from the router to its egress |
+/// | `make N` | reads nothing, and writes the generated feed of the number |
+/// | `trial N` | reads nothing, and writes a line for each summary in the output of that feed |
 ///
-/// `tables`, `agree` and `path` write only after all input was read. No octet after the last record Z is read.
+/// `tables`, `agree` and `path` write only after all input was read. No octet after the last record Z is read. With `--threads`, in front
+/// of its number or after it, `trial` works all pending prefixes of a D by several threads, and writes the same.
 pub fn run<R: Threads + Sync, S: Source, K: Sink>(
     rt: &R,
     alloc: Global,
@@ -79,11 +87,20 @@ pub fn run<R: Threads + Sync, S: Source, K: Sink>(
         → K.taken sink.old ≡ Some before → K.taken sink.new ≡ Some (before ++ written)
         → HeadlineWritten result roster octets (S.left source.new) written }
 
-    // The other commands write nothing but on Done their whole text, and on Write a part of it. NoPath has its cause.
+    // The reports write nothing but on Done their whole text, and on Write a part of it. NoPath has its cause.
     ensures text { (report : Report) → StandFor (map (λ word. word.now) words.now) (command.Report report) → (octets : List ℕ) → S.left source.old ≡ Some octets
         → WroteReport report octets result (K.taken sink.old) (K.taken sink.new) }
     ensures silent { (report : Report) → StandFor (map (λ word. word.now) words.now) (command.Report report) → result ≢ Status.Done → result ≢ Status.Write
         → K.taken sink.new ≡ K.taken sink.old }
+
+    // `make` writes the generated feed: on Done all of it, on Write a front of it and not all, on NoMemory a front. `trial` writes the
+    // lines of that feed's summaries: on Done all of them, on Write a front and not all, and else nothing. Neither reads.
+    ensures made { (number : ℕ) → StandFor (map (λ word. word.now) words.now) (command.Make number)
+        → WroteOctets (feed_octets number) result (K.taken sink.old) (K.taken sink.new) }
+    ensures tried { (number : ℕ) (threads : Bool) → StandFor (map (λ word. word.now) words.now) (command.Trial number threads)
+        → WroteText (trial_text number) result (K.taken sink.old) (K.taken sink.new) }
+    ensures unread { (command : Command) → StandFor (map (λ word. word.now) words.now) command → reads_input command ≡ false
+        → S.left source.new ≡ S.left source.old }
 
     // With the words of a command and no fault of source or sink, the status is that of the input's end, or NoMemory. Where
     // `path` has read all input, there may be no path.
@@ -91,15 +108,15 @@ pub fn run<R: Threads + Sync, S: Source, K: Sink>(
         → (Rose (S.faults source.old) (S.faults source.new) → ⊥) → (Rose (K.faults sink.old) (K.faults sink.new) → ⊥)
         → IsStatusFor command (input_end command octets) result ⊎ (result ≡ Status.NoMemory) }
 {
-    let _ = rt;
     match Command::of_words(words) {
-        Some(command) => run_command(alloc, command, source, sink),
+        Some(command) => run_command(rt, alloc, command, source, sink),
         None => Status::Usage,
     }
 }
 
 /// Runs a command.
-fn run_command<S: Source, K: Sink>(
+fn run_command<R: Threads + Sync, S: Source, K: Sink>(
+    rt: &R,
     alloc: Global,
     asked: Command,
     source: &mut S,
@@ -111,10 +128,15 @@ fn run_command<S: Source, K: Sink>(
     ensures wrote { (report : Report) → asked ≡ command.Report report → (octets : List ℕ) → S.left source.old ≡ Some octets
         → WroteReport report octets result (K.taken sink.old) (K.taken sink.new) }
     ensures silent { (report : Report) → asked ≡ command.Report report → result ≢ Status.Done → result ≢ Status.Write → K.taken sink.new ≡ K.taken sink.old }
+    ensures made { (number : ℕ) → asked ≡ command.Make number → WroteOctets (feed_octets number) result (K.taken sink.old) (K.taken sink.new) }
+    ensures tried { (number : ℕ) (threads : Bool) → asked ≡ command.Trial number threads → WroteText (trial_text number) result (K.taken sink.old) (K.taken sink.new) }
+    ensures unread { reads_input asked ≡ false → S.left source.new ≡ S.left source.old }
     ensures cause { CommandCause asked result (S.faults source.old) (S.faults source.new) (K.faults sink.old) (K.faults sink.new) }
 {
     match asked {
-        Command::Replay => replay(alloc, source, sink),
-        Command::Report(report) => put_report(alloc, report, source, sink),
+        Command::Replay => replay(rt, alloc, source, sink),
+        Command::Report(report) => put_report(rt, alloc, report, source, sink),
+        Command::Make { number } => put_feed(alloc, number, sink),
+        Command::Trial { number, threads } => put_trial(rt, alloc, number, threads, sink),
     }
 }

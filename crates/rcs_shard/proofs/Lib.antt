@@ -4,3 +4,4 @@ pub mod ContenderLemmas
 pub mod ClassLemmas
 pub mod MarkingLemmas
 pub mod ShardLemmas
+mod MovedLemmas

@@ -28,9 +28,10 @@ use Rattle.pending_marks.specs.Marks.{MarksOf, is_marked}
 use Rattle.pending_marks.specs.Marks as marks
 use Rattle.pending_marks.proofs.FirstLemmas.{tied_self}
 use Rattle.adj_ribs.specs.Bases.{Bases, no_bases, announced_at, given_at, is_opened, after_change, after_open, after_drop, after_clear}
-use Rattle.rcs_shard.specs.Slots.{SlotsOf, has_slot}
+use Rattle.rcs_shard.specs.Slots.{SlotsOf, has_slot, flag_at}
 use Rattle.rcs_shard.specs.Shards.{ShardOf, differing, acted}
 use Rattle.rcs_shard.specs.Joins.{shard_in, IsJoined, ArePlaces}
+use Rattle.rcs_shard.specs.Following.{AreMoved}
 use Rattle.rcs_shard.specs.Settling.{candidates_at, offers_at, AreSeated, AreClasses, Settles}
 use Rattle.rcs_shard.proofs.ContenderLemmas.{candidate_of}
 
@@ -522,6 +523,10 @@ abbrev pub moved_marks : Bases → MarksOf → ViewOf → ViewOf → MarksOf
 moved_marks bases pending before now = record pending {
   marked = set_of.union pending.marked (prefixes_of (λ e. cost_differs before.edges now.edges before.members e (length before.members)) bases.announced);
 }
+
+pub flagged_marks : (bases : Bases) (pending : MarksOf) (before now : ViewOf) (flags : List Bool) → AreMoved before.edges now.edges before.members flags
+    → record pending { marked = set_of.union pending.marked (prefixes_of (flag_at flags) bases.announced) } ≡ moved_marks bases pending before now
+flagged_marks bases pending before now flags are = λ i. record pending { marked = set_of.union pending.marked (prefixes_of (λ e. are e i) bases.announced) }
 
 pub same_view : (view other : ViewOf) → other.members ≡ view.members → other ≡ record view { edges = other.edges }
 same_view view other same = λ i. record { edges = other.edges; members = same i }

@@ -31,7 +31,7 @@ flagged flags slot = set_of.contains-from_list nat_cmp_total (flagged_from 0 fla
 
 -- ---- one flag is set
 
-flag_set : (flags : List Bool) (slot : ℕ) (value : Bool) (q : ℕ) → slot < length flags → flag_at (set flags slot value) q ≡ cond (eqb q slot) value (flag_at flags q)
+pub flag_set : (flags : List Bool) (slot : ℕ) (value : Bool) (q : ℕ) → slot < length flags → flag_at (set flags slot value) q ≡ cond (eqb q slot) value (flag_at flags q)
 flag_set flags slot value q within = unwrap_or-slice_get (set flags slot value) q false ∙ at (eqb q slot) refl where
   at : (t : Bool) → eqb q slot ≡ t → get_or (set flags slot value) q false ≡ cond t value (flag_at flags q)
   at true is = ap (λ k. get_or (set flags slot value) k false) (eqb-true q slot is) ∙ rw get_or-set_same refl
@@ -61,12 +61,12 @@ removed flags slot within = λ i. record { members = length-set flags slot false
 
 -- ---- no flag is set
 
-none_set : (n q : ℕ) → flag_at (replicate n false) q ≡ false
+pub none_set : (n q : ℕ) → flag_at (replicate n false) q ≡ false
 none_set zero q = refl
 none_set (suc n) zero = refl
 none_set (suc n) (suc q) = none_set n q
 
-length_none : (n : ℕ) → length (replicate n false) ≡ n
+pub length_none : (n : ℕ) → length (replicate n false) ≡ n
 length_none zero = refl
 length_none (suc n) = ap suc (length_none n)
 

@@ -2,3 +2,4 @@ pub mod Shards
 pub mod Slots
 pub mod Joins
 pub mod Settling
+pub mod Following

@@ -38,4 +38,6 @@ mod shard;
 mod slots;
 
 pub use adj_ribs::AdjRibs;
+pub use classes::find_classes;
+pub use marking::moved_slots;
 pub use shard::Shard;

@@ -8,6 +8,8 @@ ghost use Rattle.rcp_model.specs.ServerRibs.{prefixes_of};
 ghost use Rattle.pending_marks.specs.Marks.{is_opened};
 ghost use Rattle.adj_ribs.specs.Bases.{announced_at};
 ghost use Rattle.rcs_shard.specs.Settling.{AreSeated};
+ghost use Rattle.rcs_shard.specs.Slots.{flag_at};
+ghost use Rattle.rcs_shard.specs.Following.{AreMoved};
 
 use adj_ribs::AdjRibs;
 use cost_rows::View;
@@ -38,21 +40,41 @@ pub fn mark_all(ribs: &AdjRibs, pending: &mut PendingMarks)
     }
 }
 
-/// Marks the prefixes of the slots that announce and to which the cost from some slot differs in two views of the same members.
-pub fn mark_moved(ribs: &AdjRibs, pending: &mut PendingMarks, before: &View, now: &View)
+/// Marks the prefixes of the flagged slots that announce.
+pub fn mark_flagged(ribs: &AdjRibs, pending: &mut PendingMarks, flags: &[bool])
     requires opened { (e : ℕ) (p : IpPrefix) → IsSome (announced_at ribs.now e p) → is_opened pending.old p ≡ true }
     requires seated { AreSeated ribs.now ribs.now.members }
-    requires members { now.now.members ≡ before.now.members }
-    ensures { pending.new ≡ record pending.old {
-      marked = set_of.union pending.old.marked
-          (prefixes_of (λ e. cost_differs before.now.edges now.now.edges before.now.members e (length before.now.members)) ribs.now.announced);
-    } }
+    ensures { pending.new ≡ record pending.old { marked = set_of.union pending.old.marked (prefixes_of (flag_at flags.now) ribs.now.announced) } }
 {
     for slot in 0..ribs.members() {
-        if is_moved(before, now, Slot(slot)) {
+        if is_flagged(flags, Slot(slot)) {
             mark_of(ribs, pending, Slot(slot));
         }
     }
+}
+
+/// Whether a slot is flagged.
+fn is_flagged(flags: &[bool], slot: Slot) -> bool
+    ensures { result ≡ flag_at flags.now slot }
+{
+    match flags.get(slot.0 as usize) {
+        Some(flag) => *flag,
+        None => false,
+    }
+}
+
+/// Flags the slots to which the cost from some slot differs in two views of the same members.
+///
+/// It compares the costs between all members.
+pub fn moved_slots(before: &View, now: &View) -> [bool; 512]
+    requires { now.now.members ≡ before.now.members }
+    ensures { AreMoved before.now.edges now.now.edges before.now.members result }
+{
+    let mut moved = [false; 512];
+    for slot in 0..before.members().len() {
+        moved[slot] = is_moved(before, now, Slot(slot as u16));
+    }
+    moved
 }
 
 /// Whether the cost from some slot to this one differs in two views of the same members.

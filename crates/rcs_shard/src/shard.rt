@@ -6,10 +6,12 @@ ghost use Rattle.rcp_base.specs.IpPrefix.{shard_of_prefix};
 ghost use Rattle.rcp_model.specs.Graphs.{AreMembers};
 ghost use Rattle.rcp_model.specs.Routes.{is_usable};
 ghost use Rattle.rcp_model.specs.ServerRibs.{Up, Down, Change, Links, Work, prefixes_of};
+ghost use Rattle.rcs_shard.specs.Settling.{AreClasses};
+ghost use Rattle.rcs_shard.specs.Following.{AreMoved};
 ghost use Rattle.rcs_shard.specs.Shards.{new_shard, is_connected, is_pending, announced_at, given_at, IsLeastPending, IsLeastDirty, IsNextAnnounced, IsNextGiven, acted, taken};
 
 use crate::classes::find_classes;
-use crate::marking::{mark_all, mark_moved, mark_of};
+use crate::marking::{mark_all, mark_flagged, mark_of, moved_slots};
 use crate::settling::settle;
 use crate::slots::SlotSet;
 use adj_ribs::{AdjRibs, Announcer};
@@ -177,8 +179,22 @@ impl Shard {
         requires { view.value.members ≡ self.old.members }
         ensures { self.new ≡ acted (Links view.value.edges) self.old }
     {
-        mark_moved(&self.ribs, &mut self.pending, &self.view, &view);
+        let moved = moved_slots(&self.view, &view);
+        mark_flagged(&self.ribs, &mut self.pending, &moved);
         find_classes(&view, &mut self.classes);
+        self.view = view;
+    }
+
+    /// Takes another view, of the same members, as `view` does, by what is found once for all shards that have the same view: the flags of `moved_slots`
+    /// for the view before and this one, and the classes of `find_classes`. It goes over the announcements of the flagged slots alone.
+    pub fn follow(&mut self, view: Arc<View>, moved: &[bool], classes: &[Slot])
+        requires members { view.value.members ≡ self.old.members }
+        requires moved { AreMoved self.old.ribs.edges view.value.edges self.old.members moved.now }
+        requires classes { AreClasses view.value classes.now }
+        ensures { self.new ≡ acted (Links view.value.edges) self.old }
+    {
+        mark_flagged(&self.ribs, &mut self.pending, moved);
+        self.classes.copy_from_slice(classes);
         self.view = view;
     }
 

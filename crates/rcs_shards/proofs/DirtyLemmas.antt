@@ -207,7 +207,7 @@ module _ (roster : RosterOf) (slot : ℕ) where
     rising = tt;
     below = λ p q among. absurd (false≢true among);
     exact = λ q. refl;
-    empties = record { others = λ s q other. refl; kept = refl; ready = ready };
+    empties = record { others = λ s q other. refl; fewer = λ s q dirty. dirty; kept = refl; ready = ready };
   }
 
   pub taken-more : (first : List ShardOf) (ps : List IpPrefix) (before : List ShardOf) (p : IpPrefix) (now : List ShardOf) → Taken first ps before → Takes roster slot before p now → Taken first (ps ++ p ∷ []) now
@@ -220,6 +220,7 @@ module _ (roster : RosterOf) (slot : ℕ) where
     exact = λ q. so_far.exact q ∙ split q ∙ ap (λ b. b || has_dirty roster now slot q) (sym (among_push ps p q));
     empties = record {
       others = λ s q other. next.dirty s q ∙ other_slot (has_dirty roster before s q) (eqb s slot) (same_prefix q p) (ne_eqb s slot other) ∙ so_far.empties.others s q other;
+      fewer = λ s q dirty. so_far.empties.fewer s q (and_parts (has_dirty roster before s q) (not (eqb s slot && same_prefix q p)) (sym (next.dirty s q) ∙ dirty)).0;
       kept = next.kept ∙ so_far.empties.kept;
       ready = next.ready;
     };

@@ -9,6 +9,7 @@ pub mod DirtyLemmas
 pub mod CleanLemmas
 pub mod FinishLemmas
 pub mod SendLemmas
+pub mod BusyLemmas
 pub mod CountLemmas
 pub mod StepLemmas
 pub mod AskLemmas

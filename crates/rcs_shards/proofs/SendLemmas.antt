@@ -1,5 +1,5 @@
 -- What is sent slot by slot, for the cells that are dirty.
-use Rattle.std.proofs.Common.{◌≡◌, ◌≢◌, ℕ, zero, suc, ◌+◌, ◌<◌, ◌≤◌, List, [], ◌∷◌, ◌++◌, length, map, take, get_or, Option, refl, sym, ap, ◌∙◌, subst, add-one, arith}
+use Rattle.std.proofs.Common.{◌≡◌, ◌≢◌, ℕ, zero, suc, ◌+◌, ◌<◌, ◌≤◌, true, List, [], ◌∷◌, ◌++◌, length, map, take, get_or, Option, refl, sym, ap, ◌∙◌, subst, add-one, arith}
 use Rattle.std.specs.Prelude.{All, AllPairs, IsTrue}
 use Rattle.std.specs.List.{AllByRecursion, flat_map}
 use Rattle.std.proofs.Math.Seq.{take-suc}
@@ -35,11 +35,12 @@ packed_at roster shards prefixes slot = packed (cells_of roster shards slot (pre
 pub record Sends (roster : RosterOf) (slots : List ℕ) (count : ℕ) (first now : List ShardOf) (lists : List (List (List ℕ))) : Type 0 where
   pub sent : (prefixes : ℕ → List IpPrefix) → ((slot : ℕ) → AreDirty roster first slot (prefixes slot)) → lists ≡ map (packed_at roster first prefixes) (take count slots)
   pub waiting : (slot : ℕ) → ((k : ℕ) → k < count → get_or slots k 0 ≡ slot → ⊥) → (p : IpPrefix) → has_dirty roster now slot p ≡ has_dirty roster first slot p
+  pub fewer : (slot : ℕ) (p : IpPrefix) → has_dirty roster now slot p ≡ true → has_dirty roster first slot p ≡ true
   pub kept : map cleaned now ≡ map cleaned first
   pub ready : AreReady roster now
 
 pub sends-none : (roster : RosterOf) (slots : List ℕ) (first : List ShardOf) → AreReady roster first → Sends roster slots 0 first first []
-sends-none roster slots first ready = record { sent = λ prefixes are. refl; waiting = λ slot none p. refl; kept = refl; ready = ready }
+sends-none roster slots first ready = record { sent = λ prefixes are. refl; waiting = λ slot none p. refl; fewer = λ slot p dirty. dirty; kept = refl; ready = ready }
 
 module _ (roster : RosterOf) (slots : List ℕ) (distinct : AllPairs (λ a b. a ≢ b) slots) (count : ℕ) (low : count < length slots) (first before now : List ShardOf) (lists : List (List (List ℕ)))
     (so_far : Sends roster slots count first before lists) where
@@ -60,6 +61,7 @@ module _ (roster : RosterOf) (slots : List ℕ) (distinct : AllPairs (λ a b. a 
     waiting = λ s none p.
         empties.others s p (λ same. none count (omega arith) (sym same))
         ∙ so_far.waiting s (λ k below is_s. none k (omega (arith, below)) is_s) p;
+    fewer = λ s p dirty. so_far.fewer s p (empties.fewer s p dirty);
     kept = empties.kept ∙ so_far.kept;
     ready = empties.ready;
   } where

@@ -22,6 +22,7 @@ use Rattle.platform_laws.proofs.IdleSlots.{down-idle, change-idle}
 use Rattle.platform_laws.proofs.SoundShards.{sound-at, sound-new}
 use Rattle.rcs_shard.specs.Shards.{ShardOf, new_shard}
 use Rattle.rcs_shard.specs.Shards as shard
+use Rattle.rcs_shard.specs.Following.{AreMoved}
 use Rattle.rcs_shards.specs.Servers.{ServerOf, connected_in, edges_in, new_server, acted}
 use Rattle.rcs_shards.specs.Dirty.{ribs_in}
 use Rattle.rcs_shards.specs.Joins.{server_of, IsPlaced, ArePlaced, AreTogether}
@@ -91,6 +92,15 @@ module _ (roster : RosterOf) (view : ViewOf) (count : ℕ) (shards : List ShardO
     pub each-view : (after : ViewOf) → after.members ≡ server.roster.members → All (λ (s : ShardOf). after.members ≡ s.members) shards
     each-view after members k d low =
         members ∙ ap (λ (r : RosterOf). r.members) (sym roster_is) ∙ sym (h.placed k (get_or shards k d) (slice_get-get_or shards k d low)).members_are
+
+    -- what moves from the view before moves in each shard
+    pub each-moved : (after : ViewOf) (flags : List Bool) → AreMoved view.edges after.edges view.members flags → All (λ (s : ShardOf). AreMoved s.ribs.edges after.edges s.members flags) shards
+    each-moved after flags moved k d low =
+        let s = get_or shards k d in
+        let here = slice_get-get_or shards k d low in
+        let sound = sound-at roster edges_now connected_now 0 k (ribs_in shards) s.ribs h.sound.each (map-found (λ (t : ShardOf). t.ribs) shards k s here) in
+        subst (λ es. AreMoved es after.edges s.members flags) (h.edges ∙ sym sound.edges_are)
+        (subst (λ ms. AreMoved view.edges after.edges ms flags) (h.members ∙ sym (h.placed k s here).members_are) moved)
 
     module _ (p : IpPrefix) (n : ℕ) (at : n ≡ shard_number server.roster p) (low : n < length server.shards) (s : ShardOf) (read : s ≡ get_or shards n s) where
       number_at : n ≡ shard_number roster p

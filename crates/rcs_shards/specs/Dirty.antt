@@ -1,11 +1,12 @@
 -- The cells that change by work are dirty until they are sent.
-use Rattle.std.specs.Prelude.{◌≡◌, ℕ, ◌+◌, ◌<◌, ◌==◌, Bool, false, true, not, ◌&&◌, List, [], ◌∷◌, map, take, length, Option, Some, None, slice_get, slice_set}
+use Rattle.std.specs.Prelude.{◌≡◌, ℕ, ◌+◌, ◌<◌, ◌==◌, Bool, false, true, not, ◌&&◌, List, [], ◌∷◌, map, take, length, Option, Some, None, slice_get, slice_index_or, slice_set, All, Contains, ◌⊎◌}
 use Rattle.std.specs.List.{AllByRecursion}
 use Rattle.std.specs.FinSet as set_of
 use Rattle.std.specs.declared.cmp.Ordering.TheVariants.{Less}
 use Rattle.rcp_base.specs.IpPrefix.{IpPrefix, prefix_cmp}
 use Rattle.rcp_base.specs.Maps.{same_prefix, is_among}
 use Rattle.rcp_base.specs.Roster.{RosterOf}
+use Rattle.rcp_model.specs.Assigned.{IsLeast}
 use Rattle.rcp_model.specs.Cells.{Cell, IsSendable}
 use Rattle.rcp_model.specs.Rising.{IsRising}
 use Rattle.rcp_model.specs.Routes.{RouteFields, OfferFields}
@@ -86,6 +87,15 @@ pub record AreOffered (roster : RosterOf) (shards : List ShardOf) (slot : ℕ) (
   pub cells : map cell_of offers ≡ cells_of roster shards slot (map (λ offer. offer.prefix) offers)
   pub sendable : AllByRecursion IsSendable (map cell_of offers)
 
+-- the shard at a place has a dirty cell of the slot at the prefix
+abbrev pub IsDirtyAt : List ShardOf → ℕ → ℕ → IpPrefix → Type 0
+IsDirtyAt shards slot place p = dirty_in (slice_get shards place) slot p ≡ true
+
+-- at each of these places stands the prefix of the least dirty cell of the slot in the shard of that place
+pub record AreFronts (shards : List ShardOf) (busy : List ℕ) (slot : ℕ) (fronts : List (Option IpPrefix)) : Type 0 where
+  pub long : length fronts ≡ length shards
+  pub each : (n : ℕ) → Contains busy n → IsLeast (IsDirtyAt shards slot n) (slice_index_or fronts n None)
+
 -- The least dirty cell of a slot is taken away: it is at this prefix, and clean then. All else is as before.
 pub record Takes (roster : RosterOf) (slot : ℕ) (before : List ShardOf) (p : IpPrefix) (now : List ShardOf) : Type 0 where
   pub was : has_dirty roster before slot p ≡ true
@@ -95,8 +105,19 @@ pub record Takes (roster : RosterOf) (slot : ℕ) (before : List ShardOf) (p : I
   pub ready : AreReady roster now
   pub fewer : dirty_count now < dirty_count before
 
+-- These places are of shards, and of the first so many shards each in which some prefix is pending stands at one of them.
+pub record ArePending (shards : List ShardOf) (places : List ℕ) (count : ℕ) : Type 0 where
+  pub within : All (λ n. n < length shards) places
+  pub listed : (n : ℕ) (s : ShardOf) → n < count → slice_get shards n ≡ Some s → Contains places n ⊎ (set_of.len s.ribs.pending ≡ 0)
+
+-- These places are of shards, and each shard that has a dirty cell stands at one of them.
+pub record AreBusy (roster : RosterOf) (shards : List ShardOf) (busy : List ℕ) : Type 0 where
+  pub within : All (λ n. n < length shards) busy
+  pub listed : (slot : ℕ) (p : IpPrefix) → has_dirty roster shards slot p ≡ true → Contains busy (shard_number roster p)
+
 -- All dirty cells of a slot are taken away, or some. All else is as before.
 pub record Empties (roster : RosterOf) (slot : ℕ) (before now : List ShardOf) : Type 0 where
   pub others : (s : ℕ) (q : IpPrefix) → (s ≡ slot → ⊥) → has_dirty roster now s q ≡ has_dirty roster before s q
+  pub fewer : (s : ℕ) (q : IpPrefix) → has_dirty roster now s q ≡ true → has_dirty roster before s q ≡ true
   pub kept : map cleaned now ≡ map cleaned before
   pub ready : AreReady roster now

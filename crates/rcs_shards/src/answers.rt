@@ -17,7 +17,7 @@ use rcp_model::Route;
 use roster::Roster;
 
 impl Shards {
-    /// The roster. The call also tells a proof that the shards are sound.
+    /// The roster. The call also gives a proof that the shards are sound.
     pub fn roster(&self) -> &Roster
         ensures value { result.now ≡ self.now.roster }
         ensures sound { IsSoundServer self.now }

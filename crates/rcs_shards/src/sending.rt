@@ -1,14 +1,15 @@
 //! What is sent for the dirty cells of all shards.
 
-ghost use Rattle.std.specs.Prelude.{◌≡◌, ◌≢◌, ℕ, ◌<◌, ◌≤◌, List, [], ◌∷◌, length, map, option_map, All, AllPairs, IfOk, IfSome, OnErr, MatchOption, true, false};
+ghost use Rattle.std.specs.Prelude.{◌≡◌, ◌≢◌, ℕ, ◌<◌, ◌≤◌, List, [], ◌∷◌, length, map, option_map, All, AllPairs, IfOk, IfSome, OnOk, OnErr, MatchOption, true, false};
 ghost use Rattle.rcp_base.specs.IpPrefix.{IpPrefix};
 ghost use Rattle.rcp_model.specs.Cells.{IsSendable};
 ghost use Rattle.rcp_model.specs.Routes.{is_usable};
 ghost use Rattle.rcp_model.specs.Packing.{packed};
 ghost use Rattle.rcp_model.specs.Assigned.{IsLeast};
 ghost use Rattle.update_pack.specs.Shown.{cell_of};
-ghost use Rattle.rcs_shard.specs.Shards.{IsLeastDirty, given_at, taken};
-ghost use Rattle.rcs_shards.specs.Dirty.{cleaned, has_dirty, AreReady, AreDirty, AreOffered, cells_of, Takes, Empties};
+ghost use Rattle.rcs_shards.specs.Least.{HasSome};
+ghost use Rattle.rcs_shard.specs.Shards.{ShardOf, IsLeastDirty, given_at, taken};
+ghost use Rattle.rcs_shards.specs.Dirty.{cleaned, has_dirty, IsDirtyAt, AreReady, AreBusy, AreFronts, AreDirty, AreOffered, cells_of, Takes, Empties};
 
 use crate::least::lesser;
 use crate::work::Messages;
@@ -19,14 +20,17 @@ use roster::Roster;
 use std::alloc::Global;
 use update_pack::pack;
 
-/// The UPDATEs for the dirty cells of each slot of a list, of the shards of a roster. These cells are clean then.
+/// The UPDATEs for the dirty cells of each slot of a list, of the shards of a roster. These cells are clean then. Only the shards at
+/// these places are asked: no other has a dirty cell.
 pub(crate) fn send(
     alloc: Global,
     roster: &Roster,
     shards: &mut Vec<Shard>,
+    busy: &[usize],
     slots: &[Slot],
 ) -> Result<Vec<Messages>, NoMemory>
     requires ready { AreReady roster.now shards.old.items }
+    requires busy { AreBusy roster.now shards.old.items busy.now }
     requires members { All (λ slot. slot < length roster.now.members) slots.now }
     requires distinct { AllPairs (λ a b. a ≢ b) slots.now }
     ensures sent { IfOk result (λ lists. (prefixes : ℕ → List IpPrefix) → ((slot : ℕ) → AreDirty roster.now shards.old.items slot (prefixes slot))
@@ -36,68 +40,91 @@ pub(crate) fn send(
     ensures ready { AreReady roster.now shards.new.items }
 {
     let mut lists = Vec::new(alloc);
+    let mut fronts = vec![in alloc; None; shards.len()]?;
+    let mut offers = Vec::new(alloc);
     for slot in slots {
-        lists.push(updates(alloc, roster, shards, *slot)?)?;
+        lists.push(updates(alloc, roster, shards, busy, *slot, &mut fronts, &mut offers)?)?;
     }
     Ok(lists)
 }
 
-/// The packed UPDATEs for the dirty cells of a slot. These cells are clean then.
+/// The packed UPDATEs for the dirty cells of a slot. These cells are clean then. There is a place for the least dirty prefix of each
+/// shard, and the offers are made where those of the slot before were.
 fn updates(
     alloc: Global,
     roster: &Roster,
     shards: &mut Vec<Shard>,
+    busy: &[usize],
     slot: Slot,
+    fronts: &mut Vec<Option<Prefix>>,
+    offers: &mut Vec<Offer>,
 ) -> Result<Messages, NoMemory>
     requires ready { AreReady roster.now shards.old.items }
+    requires busy { AreBusy roster.now shards.old.items busy.now }
     requires member { slot < length roster.now.members }
+    requires places { length fronts.old.items ≡ length shards.old.items }
+    ensures places { length fronts.new.items ≡ length fronts.old.items }
     ensures packed { IfOk result (λ messages. (prefixes : List IpPrefix) → AreDirty roster.now shards.old.items slot prefixes
         → map (λ m. m.items) messages.items ≡ packed (cells_of roster.now shards.old.items slot prefixes)) }
     ensures short { IfOk result (λ messages. All (λ m. length m.items ≤ 4096) messages.items) }
     ensures after { Empties roster.now slot shards.old.items shards.new.items }
 {
-    let offers = take_offers(alloc, roster, shards, slot)?;
-    pack(alloc, &offers)
+    offers.clear();
+    find_fronts(roster, shards, busy, slot, fronts);
+    take_offers(roster, shards, busy, slot, fronts, offers)?;
+    pack(alloc, offers)
 }
 
-/// Takes the dirty cells of a slot away, and gives an offer for each, by rising prefix over all shards.
+/// Takes the dirty cells of a slot away, and lists an offer for each, by rising prefix over all shards.
 fn take_offers(
-    alloc: Global,
     roster: &Roster,
     shards: &mut Vec<Shard>,
+    busy: &[usize],
     slot: Slot,
-) -> Result<Vec<Offer>, NoMemory>
+    fronts: &mut Vec<Option<Prefix>>,
+    offers: &mut Vec<Offer>,
+) -> Result<(), NoMemory>
     requires ready { AreReady roster.now shards.old.items }
+    requires busy { AreBusy roster.now shards.old.items busy.now }
     requires member { slot < length roster.now.members }
-    ensures offers { IfOk result (λ offers. AreOffered roster.now shards.old.items slot offers.items) }
+    requires fronts { AreFronts shards.old.items busy.now slot fronts.old.items }
+    requires none { offers.old.items ≡ [] }
+    ensures offers { OnOk result (AreOffered roster.now shards.old.items slot offers.new.items) }
+    ensures places { length fronts.new.items ≡ length fronts.old.items }
     ensures after { Empties roster.now slot shards.old.items shards.new.items }
 {
-    let mut offers = Vec::new(alloc);
-    while let Some(offer) = take_least(roster, shards, slot)? {
+    while let Some(offer) = take_least(roster, shards, busy, slot, fronts)? {
         offers.push(offer)?;
     }
-    Ok(offers)
+    Ok(())
 }
 
 /// Takes the least dirty cell of a slot away, and gives an offer for it.
 fn take_least(
     roster: &Roster,
     shards: &mut Vec<Shard>,
+    busy: &[usize],
     slot: Slot,
+    fronts: &mut Vec<Option<Prefix>>,
 ) -> Result<Option<Offer>, NoMemory>
     requires ready { AreReady roster.now shards.old.items }
+    requires busy { AreBusy roster.now shards.old.items busy.now }
     requires member { slot < length roster.now.members }
+    requires fronts { AreFronts shards.old.items busy.now slot fronts.old.items }
+    ensures fronts { OnOk result (AreFronts shards.new.items busy.now slot fronts.new.items) }
+    ensures places { length fronts.new.items ≡ length fronts.old.items }
     ensures taken { IfOk result (λ offer. MatchOption offer
         ((shards.new.items ≡ shards.old.items) × ((p : IpPrefix) → has_dirty roster.now shards.old.items slot p ≡ false))
         (λ offer. Takes roster.now slot shards.old.items offer.prefix shards.new.items)) }
     ensures cell { IfOk result (λ offer. IfSome offer (λ offer. (cells_of roster.now shards.old.items slot (offer.prefix ∷ []) ≡ cell_of offer ∷ []) × IsSendable (cell_of offer))) }
     ensures err { OnErr result (shards.new.items ≡ shards.old.items) }
 {
-    let Some(p) = least(roster, shards, slot) else {
+    let Some(p) = least(busy, fronts) else {
         return Ok(None);
     };
     let number = usize::from(shard_of(p, roster.shards()));
     let offer = take_cell(&mut shards[number], slot)?;
+    fronts[number] = shards[number].least_dirty(slot);
     Ok(offer)
 }
 
@@ -136,15 +163,33 @@ fn offer(p: Prefix, route: Option<&Route>) -> Result<Offer, NoMemory>
     }
 }
 
-/// The prefix of the least dirty cell of a slot.
-fn least(roster: &Roster, shards: &[Shard], slot: Slot) -> Option<Prefix>
+/// Finds the prefix of the least dirty cell of a slot in each of the shards at some places.
+fn find_fronts(
+    roster: &Roster,
+    shards: &[Shard],
+    busy: &[usize],
+    slot: Slot,
+    fronts: &mut Vec<Option<Prefix>>,
+)
     requires ready { AreReady roster.now shards.now }
+    requires within { All (λ n. n < length shards.now) busy.now }
     requires member { slot < length roster.now.members }
-    ensures { IsLeast (λ p. has_dirty roster.now shards.now slot p ≡ true) result }
+    requires places { length fronts.old.items ≡ length shards.now }
+    ensures { AreFronts shards.now busy.now slot fronts.new.items }
+{
+    for place in busy {
+        fronts[*place] = shards[*place].least_dirty(slot);
+    }
+}
+
+/// The least of the prefixes of the shards at these places.
+fn least(busy: &[usize], fronts: &[Option<Prefix>]) -> Option<Prefix>
+    requires { All (λ n. n < length fronts.now) busy.now }
+    ensures { (shards : List ShardOf) (slot : ℕ) → AreFronts shards busy.now slot fronts.now → IsLeast (HasSome (IsDirtyAt shards slot) busy.now) result }
 {
     let mut found = None;
-    for shard in shards {
-        found = lesser(found, shard.least_dirty(slot));
+    for place in busy {
+        found = lesser(found, fronts[*place]);
     }
     found
 }

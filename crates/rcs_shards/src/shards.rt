@@ -6,11 +6,11 @@ ghost use Rattle.rcp_model.specs.Telling.{IsRouteOf};
 ghost use Rattle.rcs_shards.specs.Servers.{new_server, acted};
 ghost use Rattle.rcs_shards.specs.News.{AreNew};
 
-use crate::events::{down_each, up_each, view_each};
+use crate::events::{classes_of, down_each, up_each, view_each};
 use cost_rows::View;
 use rcp_base::{NoMemory, Prefix, Slot};
 use rcp_model::Route;
-use rcs_shard::Shard;
+use rcs_shard::{Shard, moved_slots};
 use roster::Roster;
 use std::alloc::Global;
 use std::marker::Model;
@@ -116,14 +116,16 @@ impl Shards {
     /// Takes another view, of the same members: each shard learns of its edges. The prefixes of each router to which the cost from some router
     /// changes are pending then.
     ///
-    /// `NoMemory` where there was no room for a copy of the pointer for each shard; the shards are as before then. In each shard it compares the costs
-    /// between all members.
+    /// `NoMemory` where there was no room for a copy of the pointer for each shard or for the classes of the members; the shards are as before then. It
+    /// compares the costs between all members once, and in each shard it goes over the announcements of those to whom one changes.
     pub fn set_view(&mut self, view: Arc<View>) -> Result<(), NoMemory>
         requires { view.value.members ≡ self.old.roster.members }
         ensures after { OnOk result (self.new ≡ acted (Links view.value.edges) self.old) }
         ensures err { OnErr result (self.new ≡ self.old) }
     {
-        view_each(self.alloc, &mut self.shards, &view)?;
+        let moved = moved_slots(&self.view, &view);
+        let classes = classes_of(self.alloc, &view)?;
+        view_each(self.alloc, &mut self.shards, &view, &moved, &classes)?;
         self.view = view;
         Ok(())
     }

@@ -195,7 +195,7 @@ fn slice_to(shards: &mut Shards, number: u16, count: u32, slot: u16) -> Result<M
     Ok(lists.pop().ok_or("a list")?)
 }
 
-// The UPDATE that announces 198.51.0.0/24 and 198.51.1.0/24 with the attributes, behind its marker.
+// The UPDATE that announces 198.51.0.0/24 and 198.51.1.0/24 with the attributes, after its marker.
 const ANNOUNCED: &[u8] = &[
     0, 56, 2, 0, 0, 0, 25, 64, 1, 1, 0, 64, 2, 4, 2, 1, 253, 233, 64, 3, 4, 10, 0, 0, 1, 64, 5, 4,
     0, 0, 0, 100, 24, 198, 51, 0, 24, 198, 51, 1,

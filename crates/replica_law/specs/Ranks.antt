@@ -1,4 +1,4 @@
--- Ranks: a graph in which the least cost from one router to each other tells the least router of its partition.
+-- Ranks: a graph in which the least cost from one router to each other gives the least router of its partition.
 use Rattle.std.specs.Prelude.{◌≡◌, ℕ, ◌↔◌, ◌⊎◌, List, Contains, Some, slice_get}
 use Rattle.rcp_base.specs.declared.names.Edge.{Edge}
 use Rattle.replica_law.specs.Steps.{IsBeginning, IsLeastIn}

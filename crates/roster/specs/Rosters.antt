@@ -14,7 +14,7 @@ Reads text (Ok roster) = roster_of text ≡ Ok roster
 Reads text (Err (refusal.Fault line why)) = roster_of text ≡ Err (record { line = line; why = why })
 Reads text (Err refusal.NoMemory) = NamesSome text
 
--- the roster of what is named, where no setting is missing at the line behind the last
+-- the roster of what is named, where no setting is missing at the line after the last
 abbrev pub Completes : Named → ℕ → Result RosterOf RosterRefusal → Type 0
 Completes named line (Ok roster) = completed named ≡ Some roster
 Completes named line (Err refused) = (completed named ≡ None) × (refused ≡ refusal.Fault line why.Missing)

@@ -91,7 +91,7 @@ impl Members {
         self.taken.contains(&id)
     }
 
-    /// Adds a router behind those that are there.
+    /// Adds a router after those that are there.
     pub fn push(&mut self, member: Member) -> Result<(), NoMemory>
         requires new_router { has_router self.old member.router ≡ false }
         requires new_identifier { has_identifier self.old member.bgp_id ≡ false }

@@ -11,7 +11,7 @@ use thiserror::Error;
 #[derive(Clone, Copy, Debug, PartialEq, Eq, Error)]
 pub enum RosterRefusal {
     /// The line of this number, counted from 1 with the skipped ones, is the first faulty one. A setting that is absent
-    /// is a fault of the line behind the last.
+    /// is a fault of the line after the last.
     #[error("roster line {line}: {why}")]
     Fault { line: u32, why: RosterWhy },
     /// No memory was found for a router or a link.

@@ -77,7 +77,7 @@ impl Roster {
         self.settings.area.0
     }
 
-    /// How many routers there are: 0 to 512. The call also tells a proof that the roster is in form.
+    /// How many routers there are: 0 to 512. The call also gives a proof that the roster is in form.
     pub fn len(&self) -> u16
         ensures len { result ≡ length self.now.members }
         ensures few { result ≤ 512 }

@@ -1,4 +1,4 @@
-// Lawful and faulty rosters, each as its text.
+// Valid and faulty rosters, each as its text.
 use super::*;
 use rcp_base::{Addr, RouterId, Slot, write_addr};
 use rcp_model::Edge;

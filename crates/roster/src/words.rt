@@ -4,7 +4,7 @@ ghost use Rattle.std.specs.Prelude.{◌≡◌, ◌≢◌, ℕ, ◌+◌, ◌<◌,
 ghost use Rattle.std.specs.List.{position, slice_split, list_any};
 ghost use Rattle.rcp_base.specs.Roster.{lines_of, words_of, is_empty};
 
-/// The first line without its end, and the text behind it. None where there is no line.
+/// The first line without its end, and the text after it. None where there is no line.
 pub fn split_line(text: &[u8]) -> Option<(&[u8], &[u8])>
     ensures lines { MatchOption result (lines_of text.now ≡ []) (λ found. lines_of text.now ≡ found.0.now ∷ lines_of found.1.now) }
     ensures shorter { IfSome result (λ found. length found.1.now < length text.now) }
@@ -54,7 +54,7 @@ pub fn four_words(line: &[u8]) -> Option<(&[u8], &[u8], &[u8], &[u8])>
     Some((word, a, b, c))
 }
 
-/// What stands before and behind the first such octet.
+/// What stands before and after the first such octet.
 fn split_once(text: &[u8], octet: u8) -> Option<(&[u8], &[u8])>
     ensures parts { MatchOption result (slice_split (λ c. c == octet) text.now ≡ text.now ∷ [])
         (λ parts. slice_split (λ c. c == octet) text.now ≡ parts.0.now ∷ slice_split (λ c. c == octet) parts.1.now) }

@@ -2,7 +2,7 @@
 //!
 //! Contracts see a finite map from prefix and slot to the number of a route.
 //!
-//! A caller may rely on this: `set`, `unset`, `take` and `drop_all` change exactly what they say, and their bools tell whether the map
+//! A caller may rely on this: `set`, `unset`, `take` and `drop_all` change exactly what they say, and their bools say whether the map
 //! changed. `announcers` gives the announcements of one prefix side by side, by rising slot, each exactly an entry of the map.
 //! `next_of`, `take_first` and `drop_all` go over the prefixes of their slot alone. Only `new`, `set` and `replace` take
 //! memory, and after `NoMemory` the map is as before.

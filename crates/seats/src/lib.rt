@@ -6,7 +6,7 @@
 //!
 //! A caller may rely on this: a seat that a book hands out is that of its slot, has the mailboxes with which it went in, is down at
 //! every shard by the messages that it put, and has a generation above that of each `Up` among them. So no two sessions of a
-//! router are up at once, and a shard can tell them apart. [`SeatOut`] is made by [`Book::take`] alone, exactly where the
+//! router are up at once, and a shard knows which is which. [`SeatOut`] is made by [`Book::take`] alone, exactly where the
 //! seat isn't in the book or its generation has reached its last value.
 //!
 //! That a seat comes back isn't promised: a session that keeps it keeps its router out.

@@ -32,13 +32,13 @@ answers-from r s h ran new a0 a1 is unspent now same none state does = record {
 }
 
 pub bytes-answers : (roster : RosterOf) (piece : List ℕ) (now : ℕ) (h mid ran new : Held) (a0 a1 : Actions) → h.spent ≡ false → is_closed h.state.phase ≡ false
-    → mid.state ≡ record { phase = h.state.phase; kept = h.state.kept ++ piece; latest = max h.state.latest now }
-    → doing_of a0 ≡ nothing → RunsOn (course_of roster mid.state.latest mid.state.kept mid.state.phase) mid ran a0 a1
+    → mid.state ≡ record { phase = h.state.phase; kept = h.state.kept; latest = max h.state.latest now }
+    → doing_of a0 ≡ nothing → RunsOn (course_of roster mid.state.latest (mid.state.kept ++ piece) mid.state.phase) mid ran a0 a1
     → new.spent ≡ false → new.state ≡ ran.state → Answers (answer roster (Octets piece now) h.state) h new a1
 bytes-answers roster piece now h mid ran new a0 a1 unspent open_ is none runs unspent' same =
     let m = moment_in h.state now in
     let course = course_of roster m (h.state.kept ++ piece) h.state.phase in
-    let all : RunsOn course mid ran a0 a1 = subst (λ (s : SessionState). RunsOn (course_of roster s.latest s.kept s.phase) mid ran a0 a1) is runs in
+    let all : RunsOn course mid ran a0 a1 = subst (λ (s : SessionState). RunsOn (course_of roster s.latest (s.kept ++ piece) s.phase) mid ran a0 a1) is runs in
     answers-from (answer roster (Octets piece now) h.state) (answered m course) h ran new a0 a1 (answer-octets roster piece now h.state open_) unspent unspent' same none
     (all.state ∙ ap (λ (s : SessionState). let r : SessionState = record { phase = course.phase; kept = course.kept; latest = s.latest } in r) is) all.does
 

@@ -51,17 +51,17 @@ bare_told found code sub is = record {
   room = subst (λ (f : Fault). data_length f.extra ≤ 4073) (sym is) (omega arith);
 }
 
--- what a faultless UPDATE tells
+-- what a faultless UPDATE brings
 pub changes-are : (body withdrawn attributes nlri : List ℕ) → sections_of body ≡ Some (record { withdrawn = withdrawn; attributes = attributes; nlri = nlri })
     → changes_of body ≡ record { withdrawn = not_announced nlri (prefixes_in withdrawn); announced = prefixes_in nlri; attributes = attributes_in attributes }
 unfolding changes_of
 changes-are body withdrawn attributes nlri are = rw (changes_of, are) refl
 
--- events that are told besides
+-- events that are added
 pub told-besides : (old : Doing) (more new : List SessionEvent) → new ≡ old.events ++ more → record old { events = new } ≡ then_also old (telling more)
 told-besides old more new is = rw (append-nil old.sent, is) refl
 
--- the withdrawn routes are told, and then the NLRI
+-- the withdrawn routes come, and then the NLRI
 pub told-both : (body withdrawn attributes nlri : List ℕ) → sections_of body ≡ Some (record { withdrawn = withdrawn; attributes = attributes; nlri = nlri })
     → (as_number : ℕ) (route : RouteFields) → route ≡ route_of number_width as_number (attributes_in attributes)
     → (old middle new : List SessionEvent) → middle ≡ old ++ map Withdraw (not_announced nlri (prefixes_in withdrawn)) → new ≡ middle ++ map (λ p. Announce p route) (prefixes_in nlri)

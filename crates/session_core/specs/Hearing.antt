@@ -6,7 +6,7 @@ use Rattle.session_core.specs.declared.actions.Actions.{Actions}
 use Rattle.session_core.specs.Shown.{doing_of}
 use Rattle.session_core.specs.Held.{Held, Answers}
 
--- these pieces came at a moment, one after another, and each was answered: what a session held before and after, and all that it did
+-- these pieces came at a time, one after another, and each was answered: what a session held before and after, and all that it did
 abbrev pub Hears : RosterOf → ℕ → List (List ℕ) → Held → Held → Doing → Type 0
 Hears roster now [] old new does = (new ≡ old) × (does ≡ nothing)
 Hears roster now (piece ∷ pieces) old new does =

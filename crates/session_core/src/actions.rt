@@ -9,13 +9,13 @@ use std::alloc::Global;
 /// Why a session ended.
 #[derive(Clone, Copy, Debug, PartialEq, Eq)]
 pub enum Why {
-    /// By a fault in what came, or because the hold time ran out: a NOTIFICATION told it.
+    /// By a fault in what came, or because the hold time ran out: a NOTIFICATION was sent.
     Fault = 1,
     /// A NOTIFICATION came.
     Received = 2,
     /// The connection ended.
     End = 3,
-    /// The seat of the router was taken: a NOTIFICATION told it.
+    /// The seat of the router was taken: a NOTIFICATION was sent.
     SeatOut = 4,
 }
 
@@ -40,7 +40,7 @@ pub struct Closed {
     pub sub: u8,
 }
 
-/// What the router of a session tells.
+/// What the router of a session announces and withdraws, and that it is up or down.
 #[derive(Debug, Drop)]
 pub enum SessionEvent {
     /// The session is established.
@@ -56,7 +56,7 @@ pub enum SessionEvent {
 pub struct Actions {
     /// The messages to send, in order, one a member, of at most 4,096 octets each.
     pub send: Vec<Vec<u8>>,
-    /// What the router tells, in order.
+    /// What came from the router, in order.
     pub events: Vec<SessionEvent>,
     /// The slot of the router whose seat is claimed: `Session::seated` has to answer it.
     pub claim: Option<Slot>,

@@ -1,4 +1,4 @@
-//! What an UPDATE tells, prefix by prefix (RFC 4271 section 4.3).
+//! What an UPDATE brings, prefix by prefix (RFC 4271 section 4.3).
 
 ghost use Rattle.std.specs.Prelude.{◌≡◌, [], ◌∷◌, ◌++◌, ◌==◌, true, not, length, map, filter, IfOk, OnOk, None};
 ghost use Rattle.std.specs.Int.{w16};
@@ -20,7 +20,7 @@ use roster::Roster;
 use std::alloc::Global;
 use std::collections::BTreeSet;
 
-/// Tells besides that the session is established.
+/// Adds that the session is established.
 pub fn tell_up(actions: &mut Actions) -> Result<(), NoMemory>
     ensures { OnOk result (doing_of actions.new ≡ then_also (doing_of actions.old) (telling (Up ∷ []))) }
 {
@@ -28,7 +28,7 @@ pub fn tell_up(actions: &mut Actions) -> Result<(), NoMemory>
     Ok(())
 }
 
-/// Tells besides what a faultless UPDATE changes: the withdrawn routes first, without those that its NLRI announces, and
+/// Adds what a faultless UPDATE changes: the withdrawn routes first, without those that its NLRI announces, and
 /// then the NLRI. The prefixes of its NLRI share one copy of the attributes.
 pub fn tell_changes(
     alloc: Global,
@@ -78,7 +78,7 @@ fn tell_withdrawn(
     Ok(())
 }
 
-/// Tells that a route to the prefixes of a section is announced.
+/// Adds that a route to the prefixes of a section is announced.
 fn tell_announced(
     events: &mut Vec<SessionEvent>,
     section: &[u8],

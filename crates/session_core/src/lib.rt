@@ -1,6 +1,6 @@
 //! A session with a router: the machine of RFC 4271 section 8, without a socket or a clock in it.
 //!
-//! What comes to a [`Session`] is octets with their moment, the answer to its claim of a seat, a moment alone, or the
+//! What comes to a [`Session`] is octets with their time, the answer to its claim of a seat, a time alone, or the
 //! connection's end. Each call answers [`Actions`]: the messages to send, what the router announces and withdraws, the
 //! seat that it claims, and the end. Contracts see a session as the state of the definitions, and each call as their
 //! answer to what came.

@@ -29,7 +29,7 @@ pub fn send_keepalive(alloc: Global, actions: &mut Actions) -> Result<(), NoMemo
     send(actions, keepalive_message(alloc)?)
 }
 
-/// Tells a fault in a NOTIFICATION besides, and ends the session by it (RFC 4271 section 6). A span of the fault names
+/// Sends a fault in a NOTIFICATION besides, and ends the session by it (RFC 4271 section 6). A span of the fault names
 /// octets of `octets`.
 pub fn close_by(
     alloc: Global,

@@ -1,6 +1,6 @@
 //! A session, and what comes to it.
 
-ghost use Rattle.std.specs.Prelude.{◌≡◌, ◌<◌, true, false, [], length, IfOk, OnOk, OnErr, if◌then◌else◌, ◌≢◌};
+ghost use Rattle.std.specs.Prelude.{◌≡◌, ◌<◌, ◌++◌, true, false, [], length, IfOk, OnOk, OnErr, if◌then◌else◌, ◌≢◌};
 ghost use Rattle.rcp_base.specs.Roster.{RosterOf};
 ghost use Rattle.rcp_model.specs.Sessions.{Octets, Seat, Moment, End, answer, begun, begun_established, course_of, seated, seat_taken, claim_answered, is_closed, OpenConfirm, Closed as ClosedPhase, seat_of, slot_in};
 ghost use Rattle.session_core.specs.Shown.{doing_of, phase_of, terms_of};
@@ -40,7 +40,7 @@ impl Model for Session {
 }
 
 impl Session {
-    /// A session begins at a moment, in seconds, with the platform's OPEN.
+    /// A session begins at a time, in seconds, with the platform's OPEN.
     pub fn open(alloc: Global, roster: &Roster, now: u64) -> Result<(Session, Actions), NoMemory>
         ensures does { IfOk result (λ opened. begun roster.now now ≡ record { after = opened.0.state; does = doing_of opened.1 }) }
         ensures unspent { IfOk result (λ opened. opened.0.spent ≡ false) }
@@ -118,7 +118,7 @@ impl Session {
         self.state.is_closed()
     }
 
-    /// Octets came at a moment, in seconds; one below the latest counts as that. Whole messages are handled in order, and
+    /// Octets came at a time, in seconds; one below the latest counts as that. Whole messages are handled in order, and
     /// a faulty header with its 19th octet. In Claiming they are kept. On a closed session nothing is done.
     ///
     /// `NoMemory` spends the session: each later call answers it, but for `end`. It never comes on a closed session that
@@ -138,15 +138,14 @@ impl Session {
         }
         self.spent = true;
         self.latest = self.latest.max(now);
-        self.kept.extend_from_slice(piece)?;
-        let handled = self.read_kept(roster, &mut actions)?;
+        let handled = self.read_piece(roster, piece, &mut actions)?;
         actions.handled = handled;
         self.spent = false;
         Ok(actions)
     }
 
-    /// The claim is answered at a moment, in seconds: the seat is free, or taken. Where it is free a KEEPALIVE is sent, and
-    /// the octets that were kept are read at this moment; else Cease is sent (RFC 4271 section 6.7), and the session is
+    /// The claim is answered at a time, in seconds: the seat is free, or taken. Where it is free a KEEPALIVE is sent, and
+    /// the octets that were kept are read at this time; else Cease is sent (RFC 4271 section 6.7), and the session is
     /// closed. Where no claim waits nothing is done.
     ///
     /// `NoMemory` spends the session: each later call answers it, but for `end`. It never comes on a closed session that
@@ -172,7 +171,7 @@ impl Session {
         Ok(actions)
     }
 
-    /// Does what is due at a moment, in seconds; one below the latest counts as that. The session is closed where the
+    /// Does what is due at a time, in seconds; one below the latest counts as that. The session is closed where the
     /// hold time has passed since a message was last read, or 240 seconds since it was opened and no claim was answered.
     /// Else a KEEPALIVE is sent where a third of the hold time has passed since the last one.
     ///
@@ -230,6 +229,29 @@ impl Session {
         if state.is_closed() {
             self.kept.clear();
         }
+    }
+
+    /// Reads the octets that are kept and the piece after them, and answers how many messages of them were handled. Where
+    /// none are kept, the messages are read in the piece itself, and only what is left of it is copied.
+    fn read_piece(
+        &mut self,
+        roster: &Roster,
+        piece: &[u8],
+        actions: &mut Actions,
+    ) -> Result<u64, NoMemory>
+        ensures runs { OnOk result (RunsOn (course_of roster.now self.old.state.latest (self.old.state.kept ++ piece.now) self.old.state.phase) self.old self.new actions.old actions.new) }
+        ensures handled { IfOk result (λ count. count ≡ handled_in roster.now self.old.state.latest (self.old.state.kept ++ piece.now) self.old.state.phase) }
+        ensures spent { self.new.spent ≡ self.old.spent }
+    {
+        if !self.kept.is_empty() {
+            self.kept.extend_from_slice(piece)?;
+            return self.read_kept(roster, actions);
+        }
+        let read = read_on(self.alloc, roster, self.state, piece, self.latest, actions)?;
+        let (_, rest) = piece.split_at(read.taken);
+        self.kept.extend_from_slice(rest)?;
+        self.state = read.state;
+        Ok(read.handled)
     }
 
     /// Reads the octets that are kept, and answers how many messages of them were handled.

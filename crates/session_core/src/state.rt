@@ -16,7 +16,7 @@ pub struct Negotiated {
 /// A claim on the seat of the router that sent an OPEN.
 #[derive(Clone, Copy, Debug, PartialEq, Eq)]
 pub struct Claim {
-    /// The moment since which the session was in OpenSent.
+    /// The time since which the session was in OpenSent.
     pub since: u64,
     pub slot: Slot,
     pub negotiated: Negotiated,
@@ -27,16 +27,16 @@ pub struct Claim {
 pub struct Peering {
     pub slot: Slot,
     pub negotiated: Negotiated,
-    /// The moment at which an OPEN, a KEEPALIVE or an UPDATE was last read.
+    /// The time at which an OPEN, a KEEPALIVE or an UPDATE was last read.
     pub read: u64,
-    /// The moment at which a KEEPALIVE was last sent.
+    /// The time at which a KEEPALIVE was last sent.
     pub sent: u64,
 }
 
-/// A state, its moments in seconds.
+/// A state, its times in seconds.
 #[derive(Clone, Copy, Debug, PartialEq, Eq)]
 pub enum State {
-    /// Since this moment.
+    /// Since this time.
     OpenSent { since: u64 },
     /// An OPEN came and claims a seat: a state of this project's own, in which octets wait.
     Claiming(Claim),

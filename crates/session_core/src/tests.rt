@@ -13,7 +13,7 @@ const LINKED: &[u8] =
 
 const MARKER: [u8; 16] = [0xff; 16];
 
-// The platform's OPEN behind its marker: AS 65000, hold time 90 and BGP Identifier 10.0.0.254.
+// The platform's OPEN after its marker: AS 65000, hold time 90 and BGP Identifier 10.0.0.254.
 const OWN_OPEN: &[u8] = b"\x00\x1d\x01\x04\xfd\xe8\x00\x5a\x0a\x00\x00\xfe\x00";
 
 // A router's OPEN with the hold time 30 and a parameter of capabilities.

@@ -52,7 +52,7 @@ pub fn tick(alloc: Global, state: State, now: u64, actions: &mut Actions) -> Res
     }
 }
 
-/// Whether so many seconds have passed since a moment.
+/// Whether so many seconds have passed since a time.
 fn has_passed(seconds: u64, since: u64, now: u64) -> bool
     ensures { result ≡ has_passed seconds since now }
 {

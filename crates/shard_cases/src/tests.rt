@@ -28,7 +28,7 @@ type Link = (u16, u16, u16);
 /// What a slot announces: its preference, neighbouring AS and discriminator, and whether the local AS is in the path.
 type Offered = (u16, u32, u32, u32, bool);
 
-/// A route whose next hop tells its router.
+/// A route whose next hop is its router's own.
 fn route(alloc: Global, offered: Offered) -> Result<Route, NoMemory> {
     let octets = Octets::from_slice(alloc, &ATTRIBUTES)?;
     Ok(Route {

@@ -23,7 +23,7 @@ pub struct NumberedCell {
 }
 
 /// The UPDATEs of cells, as `pack` gives them of offers. `attrs` has the attribute octets of each number: no two numbers have the
-/// same octets, so that the numbers tell the groups, and none has more than 4,068.
+/// same octets, so that the numbers are the groups, and none has more than 4,068.
 ///
 /// `NoMemory` where there is no room for the groups or the messages. It takes time and memory for each cell and each number, and no
 /// octets are compared.

@@ -5,8 +5,8 @@ use bgp_fault::Fault;
 use std::alloc::{AllocError, Global};
 use std::test::Fail;
 
-// Gives the piece to the cutter, and puts type and body of each message that comes behind the others. The fault, if one
-// is told.
+// Gives the piece to the cutter, and puts type and body of each message that comes after the others. The fault, if one
+// comes.
 fn take_all(
     cutter: &mut Cutter,
     piece: &[u8],

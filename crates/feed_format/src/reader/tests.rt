@@ -1,4 +1,4 @@
-// Lawful and faulty feeds, each as its octets.
+// Valid and faulty feeds, each as its octets.
 ghost use Rattle.std.specs.Prelude.{◌≡◌, false, length, ◌<◌, ◌^◌};
 
 use super::*;
@@ -141,7 +141,7 @@ fn a_later_record_is_refused_by_the_first_check_that_fails(rt: HostRuntime) -> R
     Ok(())
 }
 
-/// A lawful feed of more than 200 octets and where each of its records ends.
+/// A valid feed of more than 200 octets and where each of its records ends.
 fn long_feed(alloc: Global) -> Result<(Vec<u8>, [usize; 6]), AllocError> {
     let mut feed = Vec::new(alloc);
     frame(&mut feed, b'C', 0, &[b'#'; 60])?;

@@ -1,8 +1,8 @@
 //! Output that goes out in short writes, and a last flush that fails.
 
-use crate::standard::{ReaderSource, WriterSink};
 use crate::steps::run_words;
 use rcp_run::Status;
+use standard_streams::{ReaderSource, WriterSink};
 use std::alloc::{AllocError, Global};
 use std::io;
 use std::io::{ErrorKind, Write};

@@ -13,7 +13,7 @@ pub fn closed_session_stays_closed()
         → answer roster input session ≡ record { after = session; does = nothing } }
 {}
 
-/// However octets of one moment are cut into pieces, the session does the same and is the same afterwards as where they
+/// However octets that come at one time are cut into pieces, the session does the same and is the same afterwards as where they
 /// come at once: the same messages, events, claim and end. So it is for any two cuts of them.
 pub fn any_cut()
     ensures whole { (roster : RosterOf) (now : ℕ) (piece : List ℕ) (pieces : List (List ℕ)) (session : SessionState)
@@ -25,7 +25,7 @@ pub fn any_cut()
         ≡ answers roster (map (λ p. Octets p now) (other ∷ others)) session }
 {}
 
-/// What a session tells of its router is in form: prefixes have no bits behind their length, and each route has exactly
+/// What a session reports of its router is in form: prefixes have no bits after their length, and each route has exactly
 /// the fields of its octets, which are canonical. Octets that are kept are octets.
 pub fn told_routes_are_those_of_their_octets()
     ensures told { (roster : RosterOf) (input : Input) (session : SessionState) → AreOctets session.kept → BringsOctets input

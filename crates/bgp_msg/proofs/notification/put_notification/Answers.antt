@@ -1,4 +1,4 @@
--- Header, code and subcode, and data are put one behind the other.
+-- Header, code and subcode, and data are put one after the other.
 use Rattle.std.proofs.Common.{◌≡◌, ◌+◌, length, arith}
 use Rattle.bgp_fault.specs.Faults.{data_octets}
 use Rattle.bgp_msg.proofs.Lengths.{length-data_octets, pieces-notification}

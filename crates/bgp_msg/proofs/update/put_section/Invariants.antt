@@ -1,4 +1,4 @@
--- What is written, and the octets of the prefixes that are left behind it, are those before and those of all prefixes.
+-- What is written, and the octets of the prefixes that are left after it, are those before and those of all prefixes.
 use Rattle.std.proofs.Common.{◌≡◌, ◌+◌, ◌++◌, length, take, drop}
 use Rattle.std.specs.List.{flat_map}
 use Rattle.rcp_base.specs.IpPrefix.{prefix_octets}

@@ -8,7 +8,7 @@ use Rattle.feed_format.proofs.taking.read_exactly.Goals as goal
 take_behind : (front rest : List ℕ) (done count : ℕ) → length front ≡ done → take (done + count) (front ++ rest) ≡ front ++ take count rest
 take_behind front rest done count long = ap (λ (n : ℕ). take (n + count) (front ++ rest)) (sym long) ∙ take-append-add front rest count
 
--- what one more read gives stands behind what was read before
+-- what one more read gives stands after what was read before
 one_more : (start now then : Option (List ℕ)) (buf front rest : List ℕ) (done count : ℕ) → length front ≡ done → front ≡ take done buf
     → start ≡ in_front (take done buf) now → now ≡ in_front (take count rest) then → start ≡ in_front (take (done + count) (front ++ rest)) then
 one_more start now then buf front rest done count long is so_far next =

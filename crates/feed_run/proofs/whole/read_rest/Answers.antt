@@ -1,4 +1,4 @@
-use Rattle.std.proofs.Common.{[], Some, refl, arith}
+use Rattle.std.proofs.Common.{[], ◌∷◌, ◌++◌, Some, refl, arith}
 use Rattle.feed_meaning.specs.Platform.{fresh}
 use Rattle.feed_meaning.specs.Runs.{platform_after}
 use Rattle.feed_run.specs.Going.{Acts, Finishes}
@@ -11,7 +11,9 @@ records-preserved-in-Ok-Some g c =
     let acts : Acts c.records.feed c.next.new.self c.in-Ok-Some.field-0-0.items (g.S.Source.left c.records.source) (g.S.Source.left c.next.new.source) = rw c.in-Ok-Some.field-0-is at c.in-Ok-Some.ensures.acts in
     record {
       going = rw c.in-Ok-Some.field-0-is at c.in-Ok-Some.ensures.going;
-      reached = λ earlier before h. reached-more earlier c.records.feed c.next.new.self before (g.S.Source.left c.records.source) (g.S.Source.left c.next.new.source) (inv.reached earlier before h) _ acts;
+      reached = λ earlier roster items before h.
+          let on = inv.reached earlier roster items before h in
+          (on.0 ++ acts.item ∷ [], reached-more earlier c.records.feed c.next.new.self roster on.0 before (g.S.Source.left c.records.source) (g.S.Source.left c.next.new.source) on.1 _ acts);
       never_falls = omega (arith, inv.never_falls, c.in-Ok-Some.ensures.never_falls);
     }
 
@@ -22,13 +24,14 @@ records-smaller-in-Ok-Some g c =
     omega (arith, further, going.counts.most)
 
 pub returns-in-Ok-None-clause-whole : goal.returns-in-Ok-None-clause-whole
-returns-in-Ok-None-clause-whole g c = λ earlier before h.
+returns-in-Ok-None-clause-whole g c = λ earlier roster items before h.
     let z : Finishes c.records.feed c.next.new.self (g.S.Source.left c.records.source) (g.S.Source.left c.next.new.source) = rw c.in-Ok-None.field-0-is at c.in-Ok-None.ensures.finishes in
-    whole-feed earlier c.records.feed c.next.new.self before (g.S.Source.left c.records.source) (g.S.Source.left c.next.new.source) (c.records.invariant.reached earlier before h) z
+    let on = c.records.invariant.reached earlier roster items before h in
+    whole-feed earlier c.records.feed c.next.new.self roster on.0 before (g.S.Source.left c.records.source) (g.S.Source.left c.next.new.source) on.1 z
 
 pub returns-in-Err-clause-ends : goal.returns-in-Err-clause-ends
-returns-in-Err-clause-ends g c = λ earlier octets h.
-    let reached = c.records.invariant.reached earlier (Some octets) h in
-    let on = reads-reached earlier c.records.feed (Some octets) (g.S.Source.left c.records.source) reached octets refl in
-    let platform = platform_after (fresh reached.roster) reached.items in
-    on.2 platform c.in-Err.status _ (roster-after (fresh reached.roster) reached.items) (c.in-Err.ensures.ends platform on.0 (Some []) reached.seen on.1).reads
+returns-in-Err-clause-ends g c = λ earlier roster items octets h.
+    let reached = c.records.invariant.reached earlier roster items (Some octets) h in
+    let on = reads-reached earlier c.records.feed roster reached.0 (Some octets) (g.S.Source.left c.records.source) reached.1 octets refl in
+    let platform = platform_after (fresh roster) reached.0 in
+    on.2 platform c.in-Err.status _ (roster-after (fresh roster) reached.0) (c.in-Err.ensures.ends platform on.0 (Some []) reached.1.seen on.1).reads

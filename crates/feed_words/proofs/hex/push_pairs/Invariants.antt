@@ -1,4 +1,4 @@
--- The pairs left, behind the octets so far, give what all pairs give.
+-- The pairs left, after the octets so far, give what all pairs give.
 use Rattle.std.proofs.Common.{◌≡◌, length}
 use Rattle.feed_words.specs.Words.{hex_pairs_onto}
 use Rattle.feed_words.proofs.hex.push_pairs.Given as goal

@@ -1,4 +1,4 @@
--- The parts left, behind the octets so far, give what all parts give.
+-- The parts left, after the octets so far, give what all parts give.
 use Rattle.std.proofs.Common.{◌≡◌, ◌-◌, ◌^◌}
 use Rattle.feed_words.specs.Words.{words_of}
 use Rattle.feed_words.specs.Records.{octets_part, parts_within}

@@ -1,4 +1,4 @@
--- What one more write took goes behind what went out before.
+-- What one more write took goes after what went out before.
 use Rattle.std.proofs.Common.{◌≡◌, ◌+◌, ◌∙◌, ℕ, List, Option, ap, sym, take, drop, arith}
 use Rattle.std.proofs.Math.Seq.{take-add}
 use Rattle.outside.specs.Told.{behind, behind-append}

@@ -1,4 +1,4 @@
-use Rattle.std.proofs.Common.{◌≡◌, [], ltb, sym, ap, ◌∙◌, refl, arith}
+use Rattle.std.proofs.Common.{◌≡◌, length, [], ltb, sym, ap, ◌∙◌, refl, arith}
 use Rattle.std.specs.Prelude.{unwrap_or, sum_by, ◌==◌}
 use Rattle.std.specs.Int.{w8, from_be_bytes}
 use Rattle.std.specs.List.{list_any}
@@ -26,17 +26,17 @@ returns c =
     let neighbour : c.neighbour.result ≡ neighbour_of c.args.local_as (path_of number_width c.args.attrs.now) = rw path at c.neighbour.ensures in
     let med : c.multi_exit_disc.result ≡ number_or 0 (value_of MULTI_EXIT_DISC c.args.attrs.now) = rw shown at c.multi_exit_disc.ensures in
     let looped : c.passes.result ≡ list_any (λ segment. list_any (λ n. n == c.args.local_as) segment.numbers) (path_of number_width c.args.attrs.now) = rw path at c.passes.ensures in
-    let long : c.is_long.result ≡ is_long (canonical_octets c.args.attrs.now) = c.is_long.ensures ∙ ap (ltb 4068) c.write-len.ensures.len in
+    let long : c.is_long.result ≡ is_long (canonical_octets c.args.attrs.now) = c.is_long.ensures ∙ ap (ltb 4068) (c.len.ensures ∙ sym c.deref.ensures.len ∙ ap length (c.deref.ensures.value ∙ c.in_ok-octets.ensures)) in
     let next_hop : c.next_hop.result ≡ number_or 0 (value_of NEXT_HOP c.args.attrs.now) = rw shown at c.next_hop.ensures in
-    let octets : c.in_ok-shared.field-0.value ≡ canonical_octets c.args.attrs.now = c.in_ok-shared.ensures ∙ c.write-len.ensures.octets in
+    let octets : c.in_ok-shared.field-0.value ≡ canonical_octets c.args.attrs.now = c.in_ok-shared.ensures ∙ c.deref.ensures.value ∙ c.in_ok-octets.ensures in
     rw (pref, hops, origin, neighbour, med, looped, long, next_hop, octets) refl
 
 pub invariant_of-result : goal.invariant_of-result
 invariant_of-result c =
-    let octets : c.in_ok-shared.field-0.value ≡ canonical_octets c.args.attrs.now = c.in_ok-shared.ensures ∙ c.write-len.ensures.octets in
+    let octets : c.in_ok-shared.field-0.value ≡ canonical_octets c.args.attrs.now = c.in_ok-shared.ensures ∙ c.deref.ensures.value ∙ c.in_ok-octets.ensures in
     let short = all_short c.args.attrs.now (omega (arith, c.values-values.ensures.kept.short)) in
     record {
       canonical_attrs = rw octets (canonical_octets_again c.args.attrs.now short);
       complete = rw octets (has_route_again c.args.attrs.now short ∙ c.requires);
-      long_is = rw octets (c.is_long.ensures ∙ ap (ltb 4068) c.write-len.ensures.len);
+      long_is = rw octets (c.is_long.ensures ∙ ap (ltb 4068) (c.len.ensures ∙ sym c.deref.ensures.len ∙ ap length (c.deref.ensures.value ∙ c.in_ok-octets.ensures)));
     }

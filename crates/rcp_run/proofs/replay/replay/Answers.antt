@@ -14,7 +14,7 @@ returns-in-Err-clause-cause g c = stop-cause c.in-Err.status _ _ _ _ c.in-Err.en
 
 pub loop-status-init : goal.loop-status-init
 loop-status-init g c =
-    let begun = c.in-Ok.ensures.begun in
+    let begun = c.in-Ok.ensures.opened in
     record {
       going = c.in-Ok.ensures.going;
       source_never_falls = c.in-Ok.ensures.never_falls;

@@ -25,7 +25,7 @@ returns-in-Ok-clause-goes_on g c = λ platform seen.
       (act platform a.item).after,
       acted.0,
       λ octets told.
-          let on = goes_on platform c.args.run.now.reader octets a.item _ _ told a.given a.form a.lawful acted.2 a.further (subst (AllByRecursion IsFramed) outs_are c.in-Ok.ensures.framed)
+          let on = goes_on platform c.args.run.now.reader octets a.item _ _ told a.given a.form a.valid acted.2 a.further (subst (AllByRecursion IsFramed) outs_are c.in-Ok.ensures.framed)
           before between (c.in-Ok.ensures.ok ∙ ap (λ (outs : List OutRecord). behind before (flat_map out_octets outs)) outs_are) in
           record {
             rest = on.0;
@@ -40,7 +40,7 @@ returns-in-Ok-Some-clause-ends g c = λ platform octets seen told.
     let acted = a.acted platform seen in
     let before = g.K.Sink.taken c.args.sink.now in
     let final = g.K.Sink.taken c.write_outs.new.sink in
-    write-ends platform c.args.run.now.reader octets a.item _ _ told a.given a.form a.lawful acted.2 a.further before final
+    write-ends platform c.args.run.now.reader octets a.item _ _ told a.given a.form a.valid acted.2 a.further before final
     (subst (λ (outs : List OutRecord). WritesLess (flat_map out_octets outs) before final) (c.deref.ensures.value ∙ acted.1) c.in-Err-write_outs.ensures.less)
 
 pub returns-clause-ends : goal.returns-clause-ends

@@ -3,7 +3,7 @@ use Rattle.rcp_base.specs.Feed.{FeedState, before_feeds}
 use Rattle.feed_run.specs.Whole.{IsWhole}
 use Rattle.feed_run.specs.declared.records.FeedRun.{FeedRun}
 use Rattle.rcp_run.specs.Making.{FollowsFeed}
-use Rattle.rcp_run.specs.declared.command.Report.TheVariants as report
+use Rattle.rcp_words.specs.declared.command.Report.TheVariants as report
 use Rattle.rcp_run.proofs.ReportLemmas.{first-unread, made-cause}
 use Rattle.rcp_run.proofs.report.agreement.Goals as goal
 

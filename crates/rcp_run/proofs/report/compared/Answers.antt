@@ -1,5 +1,5 @@
 use Rattle.std.proofs.Common.{Some, refl}
-use Rattle.rcp_run.specs.declared.command.Report.TheVariants as report
+use Rattle.rcp_words.specs.declared.command.Report.TheVariants as report
 use Rattle.rcp_run.proofs.ReportLemmas.{first-feed, agreement-made, second-unread, memory-unmade, made-cause}
 use Rattle.rcp_run.proofs.report.compared.Goals as goal
 

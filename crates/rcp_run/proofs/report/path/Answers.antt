@@ -1,4 +1,4 @@
-use Rattle.rcp_run.specs.declared.command.Report.TheVariants as report
+use Rattle.rcp_words.specs.declared.command.Report.TheVariants as report
 use Rattle.rcp_run.proofs.ReportLemmas.{first-feed, path-made, path-unmade, path-unread, made-cause, refused-cause}
 use Rattle.rcp_run.proofs.report.path.Goals as goal
 

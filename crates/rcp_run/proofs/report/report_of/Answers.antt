@@ -1,6 +1,6 @@
 use Rattle.std.proofs.Common.{◌≡◌, ℕ, List, Some, IfErr, sym, subst}
 use Rattle.rcp_run.specs.Making.{IsUnmade}
-use Rattle.rcp_run.specs.declared.command.Report.{Report}
+use Rattle.rcp_words.specs.declared.command.Report.{Report}
 use Rattle.rcp_run.proofs.report.report_of.Goals as goal
 
 pub returns-in-Tables-clause-unmade : goal.returns-in-Tables-clause-unmade

@@ -1,4 +1,4 @@
-use Rattle.rcp_run.specs.declared.command.Report.TheVariants as report
+use Rattle.rcp_words.specs.declared.command.Report.TheVariants as report
 use Rattle.rcp_run.proofs.ReportLemmas.{first-feed, tables-made, tables-unread, memory-unmade, made-cause}
 use Rattle.rcp_run.proofs.report.tables.Goals as goal
 

@@ -1,13 +1,14 @@
-use Rattle.std.proofs.Common.{◌≡◌, ◌⊎◌, Some, subst}
+use Rattle.std.proofs.Common.{◌≡◌, ◌⊎◌, Some, subst, ap, ◌∙◌}
 use Rattle.feed_format.specs.declared.status.Status.TheVariants.{NoMemory}
 use Rattle.feed_run.specs.Statuses.{EndsSo}
 use Rattle.feed_run.specs.Written.{EndsCut}
-use Rattle.rcp_run.specs.Commands.{input_end, input_left}
+use Rattle.rcp_run.specs.Commands.{input_end, input_left, reads_input}
 use Rattle.rcp_run.specs.Reports.{IsStatusFor}
-use Rattle.rcp_run.specs.declared.command.Command.{Command}
-use Rattle.rcp_run.specs.declared.command.Command.TheVariants as command
+use Rattle.rcp_words.specs.declared.command.Command.{Command}
+use Rattle.rcp_words.specs.declared.command.Command.TheVariants as command
 use Rattle.rcp_run.proofs.HeadlineLemmas.{headline-written}
-use Rattle.rcp_run.proofs.CommandLemmas.{same_command, command-status, read-cause, write-cause, never-usage, never-net, refused-alone}
+use Rattle.rcp_words.proofs.WordLemmas.{same_command}
+use Rattle.rcp_run.proofs.CommandLemmas.{command-status, read-cause, write-cause, never-usage, never-net, refused-alone}
 use Rattle.rcp_run.proofs.running.run.Goals as goal
 
 -- ---- no command
@@ -35,6 +36,15 @@ returns-in-None-clause-silent g c = λ report stand not_done not_written. absurd
 
 pub returns-in-None-clause-complete : goal.returns-in-None-clause-complete
 returns-in-None-clause-complete g c = λ a stand octets told read write. absurd (c.in-None.ensures a stand)
+
+pub returns-in-None-clause-made : goal.returns-in-None-clause-made
+returns-in-None-clause-made g c = λ number stand. absurd (c.in-None.ensures (command.Make number) stand)
+
+pub returns-in-None-clause-tried : goal.returns-in-None-clause-tried
+returns-in-None-clause-tried g c = λ number threads stand. absurd (c.in-None.ensures (command.Trial number threads) stand)
+
+pub returns-in-None-clause-unread : goal.returns-in-None-clause-unread
+returns-in-None-clause-unread g c = λ a stand reads. absurd (c.in-None.ensures a stand)
 
 -- ---- a command
 
@@ -101,3 +111,14 @@ returns-in-Some-clause-complete g c = λ a stand octets told read write.
     let same : c.in-Some.command ≡ a = same_command _ c.in-Some.command a c.in-Some.ensures stand in
     subst (λ (b : Command). IsStatusFor b (input_end b octets) c.run_command.result ⊎ (c.run_command.result ≡ NoMemory)) same
     (command-status c.in-Some.command c.run_command.result (input_end c.in-Some.command octets) _ _ _ _ c.run_command.ensures.cause (c.run_command.ensures.reads octets told).ended read write)
+
+pub returns-in-Some-clause-made : goal.returns-in-Some-clause-made
+returns-in-Some-clause-made g c = λ number stand. c.run_command.ensures.made number (same_command _ c.in-Some.command (command.Make number) c.in-Some.ensures stand)
+
+pub returns-in-Some-clause-tried : goal.returns-in-Some-clause-tried
+returns-in-Some-clause-tried g c = λ number threads stand.
+    c.run_command.ensures.tried number threads (same_command _ c.in-Some.command (command.Trial number threads) c.in-Some.ensures stand)
+
+pub returns-in-Some-clause-unread : goal.returns-in-Some-clause-unread
+returns-in-Some-clause-unread g c = λ a stand reads.
+    c.run_command.ensures.unread (ap reads_input (same_command _ c.in-Some.command a c.in-Some.ensures stand) ∙ reads)

@@ -1,24 +1,16 @@
-use Rattle.std.proofs.Common.{◌≡◌, ◌<◌, true, length, get_or, sym, ap, subst, ◌∙◌, rules}
-use Rattle.std.proofs.lemmas.Option.{slice_get-get_or}
-use Rattle.rcs_shard.specs.Shards.{ShardOf, is_dirty}
-use Rattle.rcs_shards.proofs.LeastLemmas.{least-none, least-turn, least-all}
-use Rattle.rcs_shards.proofs.DirtyLemmas.{least-over}
+use Rattle.std.proofs.Common.{None, get_or, refl, rules}
+use Rattle.std.proofs.lemmas.List.{get_or_read}
+use Rattle.rcs_shards.proofs.BusyLemmas.{so_far-none, so_far-more, so_far-all}
 use Rattle.rcs_shards.proofs.sending.least.Goals as goal
 
-pub loop-shard-init : goal.loop-shard-init
-loop-shard-init c = least-none (λ (s : ShardOf) p. is_dirty s c.args.slot p ≡ true) c.args.shards.now
+pub loop-place-init : goal.loop-place-init
+loop-place-init c = so_far-none c.args.busy.now c.args.fronts.now
 
-pub least_dirty-requires : goal.least_dirty-requires
-least_dirty-requires c =
-    subst (λ m. c.args.slot < length m) (sym (ap (λ (s : ShardOf). s.members) c.shard-item.is ∙ (c.requires.ready.each c.loop-shard.shard-index (get_or c.args.shards.now c.loop-shard.shard-index c.shard-item.result) (slice_get-get_or c.args.shards.now c.loop-shard.shard-index c.shard-item.result c.loop-shard-test.true)).members)) c.requires.member
-
-pub loop-shard-preserved : goal.loop-shard-preserved
-loop-shard-preserved c =
-    least-turn (λ (s : ShardOf) p. is_dirty s c.args.slot p ≡ true) c.args.shards.now c.loop-shard.shard-index c.shard-item.result c.loop-shard-test.true c.shard-item.is
-    c.loop-shard.found c.least_dirty.result c.lesser-found.result c.loop-shard.invariant
-    c.least_dirty.ensures c.lesser-found.ensures
+pub loop-place-preserved : goal.loop-place-preserved
+loop-place-preserved c =
+    let place = get_or c.args.busy.now c.loop-place.place-index 0 in
+    so_far-more c.args.busy.now c.args.fronts.now c.loop-place.place-index place c.loop-place.found c.index-fronts-place.result c.lesser-found.result c.loop-place.invariant c.loop-place-test.true refl
+    (get_or_read c.args.fronts.now place c.index-fronts-place.result (c.requires c.loop-place.place-index 0 c.loop-place-test.true) c.index-fronts-place.is None) c.lesser-found.ensures
 
 pub returns : goal.returns
-returns c =
-    least-over c.args.roster.now c.args.shards.now c.requires.ready c.args.slot c.loop-shard.found
-    (least-all (λ (s : ShardOf) p. is_dirty s c.args.slot p ≡ true) c.args.shards.now c.loop-shard.shard-index c.loop-shard.found (search rules) c.loop-shard.invariant)
+returns c = so_far-all c.args.busy.now c.args.fronts.now c.loop-place.place-index c.loop-place.found c.loop-place.invariant (search rules)

@@ -1,7 +1,9 @@
 use Rattle.std.proofs.Common.{ℕ, ◌≤◌, List, [], ◌∷◌, length, map, Vec, Global, sym, ap, subst, ◌∙◌, arith}
 use Rattle.std.specs.Prelude.{All}
-use Rattle.std.proofs.lemmas.List.{map-append}
+use Rattle.std.proofs.lemmas.List.{map-append, length-map}
+use Rattle.rcs_shards.specs.Dirty.{cleaned}
 use Rattle.std.proofs.lemmas.List.Elements.{All-push}
+use Rattle.rcs_shards.proofs.BusyLemmas.{busy-after}
 use Rattle.rcs_shards.proofs.SendLemmas.{sends-turn, sends-all}
 use Rattle.rcs_shards.proofs.sending.send.Goals as goal
 
@@ -15,9 +17,14 @@ loop-slot-preserved c =
           (octets_of c.in_ok-updates.field-0) c.in_ok-updates.ensures.packed
           (ap (map octets_of) pushed ∙ map-append octets_of c.loop-slot.lists.items (c.in_ok-updates.field-0 ∷ [])),
       subst (All are_short) (sym pushed) (All-push are_short c.loop-slot.lists.items c.in_ok-updates.field-0 c.loop-slot.invariant.1 c.in_ok-updates.ensures.short),
+      c.updates.ensures.places ∙ c.loop-slot.invariant.2 ∙ sym (sym (length-map c.updates.new.shards.items cleaned) ∙ ap length c.updates.ensures.after.kept ∙ length-map c.loop-slot.shards.items cleaned),
     )
 
 pub returns-clause-sent : goal.returns-clause-sent
 returns-clause-sent c =
     let all : length c.args.slots.now ≤ c.loop-slot.slot-index = omega (arith, c.loop-slot-test.false) in
     sends-all c.args.roster.now c.args.slots.now c.loop-slot.slot-index c.args.shards.now.items c.loop-slot.shards.items _ c.loop-slot.invariant.0 all
+
+pub updates-requires-clause-busy : goal.updates-requires-clause-busy
+updates-requires-clause-busy c =
+    busy-after c.args.roster.now c.args.shards.now.items c.loop-slot.shards.items c.args.busy.now c.requires.busy c.loop-slot.invariant.0.kept c.loop-slot.invariant.0.fewer

@@ -1,5 +1,5 @@
--- The slots so far were sent what is dirty for them.
-use Rattle.std.proofs.Common.{◌≤◌, length, map}
+-- The slots so far were sent what is dirty for them, and there is a place for the front of each shard.
+use Rattle.std.proofs.Common.{◌≡◌, ◌≤◌, length, map}
 use Rattle.std.specs.Prelude.{All}
 use Rattle.rcs_shards.proofs.SendLemmas.{Sends}
 use Rattle.rcs_shards.proofs.sending.send.Given as goal
@@ -8,3 +8,4 @@ abbrev pub invariant-loop-slot : goal.invariant-loop-slot
 invariant-loop-slot l =
     Sends l.roster l.slots l.slot-index l.initial.shards.items l.shards.items (map (λ messages. map (λ m. m.items) messages.items) l.lists.items)
     × All (λ messages. All (λ m. length m.items ≤ 4096) messages.items) l.lists.items
+    × (length l.fronts.items ≡ length l.shards.items)

@@ -1,4 +1,4 @@
--- What is left of the text, behind what was named so far, gives what all of it gives. Each line has taken an octet.
+-- What is left of the text, after what was named so far, gives what all of it gives. Each line has taken an octet.
 use Rattle.std.proofs.Common.{◌≡◌, ℕ, ◌≤◌, ◌+◌, List, ◌++◌, length}
 use Rattle.rcp_base.specs.Roster.{lines_of, roster_from, roster_of}
 use Rattle.roster.specs.Form.{NamedInForm}

@@ -1,4 +1,4 @@
--- What was told and then the rest is what was told in the beginning and then all.
+-- What was added and then the rest is what was there in the beginning and then all.
 use Rattle.std.proofs.Common.{◌≡◌, ◌-◌, ◌≤◌, ◌++◌, length, drop, map, None}
 use Rattle.rcp_model.specs.Sessions.{Announce}
 use Rattle.rcp_model.specs.Updates.{prefixes_in, prefixes_fault}

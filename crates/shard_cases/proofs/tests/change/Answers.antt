@@ -6,7 +6,7 @@ use Rattle.rcp_base.specs.contracts.names.MemberPartialEq.TheImpl.{eq-value}
 use Rattle.cost_rows.specs.Views.{ViewOf}
 use Rattle.shard_cases.proofs.tests.change.Goals as goal
 
--- lists that a test tells equal, where it tells no two others so
+-- lists that a test finds equal, where it finds no two others so
 lists_same : {X : Type 0} (E : X → X → Bool) → ((a b : X) → E a b ≡ true → a ≡ b) → (xs ys : List X) → pointwise E xs ys ≡ true → xs ≡ ys
 lists_same E sound [] [] e = refl
 lists_same E sound [] (y ∷ ys) e = absurd (false≢true e)

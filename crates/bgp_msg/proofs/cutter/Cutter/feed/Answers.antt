@@ -1,4 +1,4 @@
--- The header's octets are copied, and then those of its message behind them.
+-- The header's octets are copied, and then those of its message after them.
 use Rattle.std.proofs.Common.{◌+◌, ◌<◌, ◌≤◌, ℕ, List, length, take, sym, ap, ◌∙◌, subst, arith, length-take-le}
 use Rattle.rcp_model.specs.Messages.{header_fault, length_field}
 use Rattle.rcp_model.proofs.ReadingLemmas.{faultless_length}

@@ -28,8 +28,8 @@ returns-in-Err-clause-ends g c = λ octets taken told.
 pub returns-in-Err-read-clause-ends : goal.returns-in-Err-read-clause-ends
 returns-in-Err-read-clause-ends g c = λ octets taken told.
     let body_is : c.first.inside.body.items ≡ c.in-Ok.first.body = ap (λ (r : FeedRecord). r.body) c.first.view_is in
-    let lawful = subst (λ (s : FeedState). fault_of s c.in-Ok.first ≡ None) c.restart.ensures c.in-Ok.ensures.«record».1 in
-    rw (c.status_of_roster.ensures, ap (λ (n : ℕ). n + 1) c.requires.number) (roster-refused c.args.reader octets c.in-Ok.first _ _ told c.in-Ok.ensures.octets c.in-Ok.ensures.«record».0 lawful c.in-Err-read.refused taken
+    let valid = subst (λ (s : FeedState). fault_of s c.in-Ok.first ≡ None) c.restart.ensures c.in-Ok.ensures.«record».1 in
+    rw (c.status_of_roster.ensures, ap (λ (n : ℕ). n + 1) c.requires.number) (roster-refused c.args.reader octets c.in-Ok.first _ _ told c.in-Ok.ensures.octets c.in-Ok.ensures.«record».0 valid c.in-Err-read.refused taken
     (subst (λ (text : List ℕ). Reads text (Err c.in-Err-read.refused)) (c.deref.ensures.value ∙ body_is) c.in-Err-read.ensures))
 
 -- the platform of the roster to which nothing happened
@@ -38,38 +38,38 @@ new_seen roster platform is some = subst (λ (p : StateOf). IsSeen (fresh roster
 
 pub returns-in-Ok-new-clause-going : goal.returns-in-Ok-new-clause-going
 returns-in-Ok-new-clause-going g c =
-    let lawful = subst (λ (s : FeedState). fault_of s c.in-Ok.first ≡ None) c.restart.ensures c.in-Ok.ensures.«record».1 in
+    let valid = subst (λ (s : FeedState). fault_of s c.in-Ok.first ≡ None) c.restart.ensures c.in-Ok.ensures.«record».1 in
     let noted : c.next.new.self ≡ after (before_next_feed c.args.reader) c.in-Ok.first = c.in-Ok.ensures.after ∙ ap (λ (s : FeedState). after s c.in-Ok.first) c.restart.ensures in
-    let first = noted_first c.args.reader c.in-Ok.first lawful in
+    let first = noted_first c.args.reader c.in-Ok.first valid in
     record {
       defined = fresh c.in-Ok-read.roster;
       seen = new_seen c.in-Ok-read.roster c.in-Ok-new.platform c.in-Ok-new.ensures (omega (arith, c.shards.ensures.value, c.shards.ensures.within.least));
       number = ap (λ (n : ℕ). n + 1) c.requires.number ∙ ap (λ (s : FeedState). s.number) (sym noted);
       counts = record {
         least = omega (arith, ap (λ (s : FeedState). s.number) noted, ap (λ (s : FeedState). s.octets) noted, c.requires.counts.least);
-        most = let few = (lawful_parts (before_next_feed c.args.reader) c.in-Ok.first lawful).few in omega (arith, ap (λ (s : FeedState). s.octets) noted, c.in-Ok.ensures.«record».0.length, few);
+        most = let few = (lawful_parts (before_next_feed c.args.reader) c.in-Ok.first valid).few in omega (arith, ap (λ (s : FeedState). s.octets) noted, c.in-Ok.ensures.«record».0.length, few);
       };
       unfinished = ap (λ (s : FeedState). s.closed) noted ∙ first.0;
       connections = tt;
       time = first.1 ∙ ap (λ (s : FeedState). s.moment) (sym noted);
     }
 
-pub returns-in-Ok-new-clause-begun : goal.returns-in-Ok-new-clause-begun
-returns-in-Ok-new-clause-begun g c =
+pub returns-in-Ok-new-clause-opened : goal.returns-in-Ok-new-clause-opened
+returns-in-Ok-new-clause-opened g c =
     let body_is : c.first.inside.body.items ≡ c.in-Ok.first.body = ap (λ (r : FeedRecord). r.body) c.first.view_is in
-    let lawful = subst (λ (s : FeedState). fault_of s c.in-Ok.first ≡ None) c.restart.ensures c.in-Ok.ensures.«record».1 in
+    let valid = subst (λ (s : FeedState). fault_of s c.in-Ok.first ≡ None) c.restart.ensures c.in-Ok.ensures.«record».1 in
     let noted : c.next.new.self ≡ after (before_next_feed c.args.reader) c.in-Ok.first = c.in-Ok.ensures.after ∙ ap (λ (s : FeedState). after s c.in-Ok.first) c.restart.ensures in
     record {
       first = c.in-Ok.first;
       given = c.in-Ok.ensures.octets;
       form = c.in-Ok.ensures.«record».0;
-      lawful = lawful;
+      valid = valid;
       noted = noted;
       roster = c.in-Ok-read.roster;
       is_read = ap roster_of (sym (c.deref.ensures.value ∙ body_is)) ∙ c.in-Ok-read.ensures;
       seen = new_seen c.in-Ok-read.roster c.in-Ok-new.platform c.in-Ok-new.ensures (omega (arith, c.shards.ensures.value, c.shards.ensures.within.least));
       begins = λ octets told.
-          let on = begins-from c.args.reader octets c.in-Ok.first _ _ told c.in-Ok.ensures.octets c.in-Ok.ensures.«record».0 lawful c.in-Ok-read.roster (ap roster_of (sym (c.deref.ensures.value ∙ body_is)) ∙ c.in-Ok-read.ensures) in
+          let on = begins-from c.args.reader octets c.in-Ok.first _ _ told c.in-Ok.ensures.octets c.in-Ok.ensures.«record».0 valid c.in-Ok-read.roster (ap roster_of (sym (c.deref.ensures.value ∙ body_is)) ∙ c.in-Ok-read.ensures) in
           record {
             rest = on.0;
             left = on.1;
@@ -79,5 +79,5 @@ returns-in-Ok-new-clause-begun g c =
 
 pub returns-in-Err-new-clause-ends : goal.returns-in-Err-new-clause-ends
 returns-in-Err-new-clause-ends g c = λ octets taken told.
-    let lawful = subst (λ (s : FeedState). fault_of s c.in-Ok.first ≡ None) c.restart.ensures c.in-Ok.ensures.«record».1 in
-    no_memory-ends c.args.reader octets c.in-Ok.first _ _ told c.in-Ok.ensures.octets c.in-Ok.ensures.«record».0 lawful taken
+    let valid = subst (λ (s : FeedState). fault_of s c.in-Ok.first ≡ None) c.restart.ensures c.in-Ok.ensures.«record».1 in
+    no_memory-ends c.args.reader octets c.in-Ok.first _ _ told c.in-Ok.ensures.octets c.in-Ok.ensures.«record».0 valid taken

@@ -26,8 +26,8 @@ returns-in-Err-clause-ends g c = λ platform octets taken seen told.
 
 -- one record more
 counts_after : (state : FeedState) (item : FeedRecord) → IsRecord item → fault_of state item ≡ None → HasCounts state → (next : FeedState) → next ≡ after state item → HasCounts next
-counts_after state item form lawful h next noted =
-    let few = (lawful_parts state item lawful).few in
+counts_after state item form valid h next noted =
+    let few = (lawful_parts state item valid).few in
     record {
       least = omega (arith, ap (λ (s : FeedState). s.number) noted, ap (λ (s : FeedState). s.octets) noted, h.least);
       most = omega (arith, ap (λ (s : FeedState). s.octets) noted, form.length, few);
@@ -51,23 +51,23 @@ returns-then-is_finish-clause-done g c = λ platform octets taken seen told.
     (sym (c.in_default.ensures ∙ ap (λ (r : RosterOf). roster_fault r c.in-Ok.item) seen.roster))
     taken (ap (λ (r : FeedRecord). is_finish r.kind) (sym c.item.view_is) ∙ sym c.is_finish.ensures ∙ c.if-is_finish.true)
 
-pub step-requires-clause-body : goal.step-requires-clause-body
-step-requires-clause-body g c = lawful_length c.args.self.now.reader c.in-Ok.item c.in-Ok.ensures.«record».1
+pub act_on-requires-clause-body : goal.act_on-requires-clause-body
+act_on-requires-clause-body g c = λ lifetimes met. lawful_length c.args.self.now.reader c.in-Ok.item c.in-Ok.ensures.«record».1
 
-pub step-requires-clause-number : goal.step-requires-clause-number
-step-requires-clause-number g c = λ is.
+pub act_on-requires-clause-number : goal.act_on-requires-clause-number
+act_on-requires-clause-number g c = λ lifetimes met is.
     let state = c.args.self.now.reader in
     subst (λ (sessions : Connections). AllByRecursion (λ entry. entry.0 < c.in-Ok.item.source) sessions) (sym c.requires.seen.sessions)
     (all_below state.last c.in-Ok.item.source c.requires.defined.connections (new_number state c.in-Ok.item (lawful_parts state c.in-Ok.item c.in-Ok.ensures.«record».1).body is) c.requires.connections)
 
-pub step-requires-clause-time : goal.step-requires-clause-time
-step-requires-clause-time g c = λ is.
+pub act_on-requires-clause-time : goal.act_on-requires-clause-time
+act_on-requires-clause-time g c = λ lifetimes met is.
     let state = c.args.self.now.reader in
     let later = no_earlier state c.in-Ok.item (lawful_parts state c.in-Ok.item c.in-Ok.ensures.«record».1).body is in
     omega (arith, later, c.requires.seen.time, c.requires.time)
 
-pub returns-in-Ok-step-clause-going : goal.returns-in-Ok-step-clause-going
-returns-in-Ok-step-clause-going g c =
+pub returns-in-Ok-act_on-clause-going : goal.returns-in-Ok-act_on-clause-going
+returns-in-Ok-act_on-clause-going g c =
     let state = c.args.self.now.reader in
     let item = c.in-Ok.item in
     let noted = c.in-Ok.ensures.after in
@@ -75,7 +75,7 @@ returns-in-Ok-step-clause-going g c =
     let further : is_finish c.in-Ok.item.kind ≡ false = ap (λ (r : FeedRecord). is_finish r.kind) (sym c.item.view_is) ∙ sym c.is_finish.ensures ∙ c.if-is_finish.false in
     record {
       defined = (act platform item).after;
-      seen = c.in-Ok-step.ensures.after platform c.requires.seen;
+      seen = c.in-Ok-act_on.ensures.after platform c.requires.seen;
       number = ap (λ (n : ℕ). n + 1) c.requires.number ∙ ap (λ (s : FeedState). s.number) (sym noted);
       counts = counts_after state item c.in-Ok.ensures.«record».0 c.in-Ok.ensures.«record».1 c.requires.counts _ noted;
       unfinished = ap (λ (s : FeedState). s.closed) noted ∙ further;
@@ -95,7 +95,7 @@ returns-then-is_finish-clause-finishes g c = record {
   item = c.in-Ok.item;
   given = c.in-Ok.ensures.octets;
   form = c.in-Ok.ensures.«record».0;
-  lawful = c.in-Ok.ensures.«record».1;
+  valid = c.in-Ok.ensures.«record».1;
   last = ap (λ (r : FeedRecord). is_finish r.kind) (sym c.item.view_is) ∙ sym c.is_finish.ensures ∙ c.if-is_finish.true;
   noted = c.in-Ok.ensures.after;
   same = refl;
@@ -107,8 +107,8 @@ returns-then-is_finish-clause-counts g c = (
   ap (λ (n : ℕ). n + 1) c.requires.number ∙ ap (λ (s : FeedState). s.number) (sym c.in-Ok.ensures.after),
 )
 
-pub returns-in-Ok-step-clause-counts : goal.returns-in-Ok-step-clause-counts
-returns-in-Ok-step-clause-counts g c = (
+pub returns-in-Ok-act_on-clause-counts : goal.returns-in-Ok-act_on-clause-counts
+returns-in-Ok-act_on-clause-counts g c = (
   counts_after c.args.self.now.reader c.in-Ok.item c.in-Ok.ensures.«record».0 c.in-Ok.ensures.«record».1 c.requires.counts _ c.in-Ok.ensures.after,
   ap (λ (n : ℕ). n + 1) c.requires.number ∙ ap (λ (s : FeedState). s.number) (sym c.in-Ok.ensures.after),
 )

@@ -1,4 +1,4 @@
--- The header's octets and those behind it were copied one after the other.
+-- The header's octets and those after it were copied one after the other.
 use Rattle.ospf_packet.proofs.Filling.{filled_twice, framing_with}
 use Rattle.ospf_packet.proofs.framer.Framer.feed.Goals as goal
 

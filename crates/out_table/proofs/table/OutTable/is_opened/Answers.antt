@@ -7,4 +7,4 @@ pub returns : goal.returns
 returns c =
     let t = c.self.inside in
     c.is_some.ensures ∙ ap is_some c.place_of.ensures
-    ∙ sym (opened_is t.members t.places.entries t.prefixes.items t.columns.items c.args.p) ∙ ap (λ (u : Table). is_opened u c.args.p) c.self.view_is
+    ∙ sym (opened_is t.columns.members t.places.entries t.prefixes.items t.columns.items c.args.p) ∙ ap (λ (u : Table). is_opened u c.args.p) c.self.view_is

@@ -9,11 +9,11 @@ returns-in-None c =
     let t = c.self.inside in
     subst (λ (a : Option IpPrefix). IsLeast (λ q. is_after a q && is_opened c.args.self.now q) c.first.result) (sym c.in-None.is)
     (subst (IsLeast (λ q. is_opened c.args.self.now q)) (sym c.first.ensures)
-    (next_of_all c.args.self.now t.members t.room t.places.entries t.prefixes.items t.columns.items c.self.view_is c.self.invariant))
+    (next_of_all c.args.self.now t.columns.members t.room t.places.entries t.prefixes.items t.columns.items c.self.view_is c.self.invariant))
 
 pub returns-in-Some : goal.returns-in-Some
 returns-in-Some c =
     let t = c.self.inside in
     subst (λ (a : Option IpPrefix). IsLeast (λ q. is_after a q && is_opened c.args.self.now q) c.first_after.result) (sym c.in-Some.is)
     (subst (IsLeast (λ q. is_after (Some c.in-Some.p) q && is_opened c.args.self.now q)) (sym c.first_after.ensures)
-    (next_after c.args.self.now t.members t.room c.in-Some.p t.places.entries t.prefixes.items t.columns.items c.self.view_is c.self.invariant))
+    (next_after c.args.self.now t.columns.members t.room c.in-Some.p t.places.entries t.prefixes.items t.columns.items c.self.view_is c.self.invariant))

@@ -1,4 +1,4 @@
--- What one more read gave goes behind what was given before.
+-- What one more read gave goes after what was given before.
 use Rattle.std.proofs.Common.{◌≡◌, ◌+◌, ◌++◌, ◌∙◌, ℕ, List, Some, length, ap, sym, take, drop}
 use Rattle.std.proofs.Math.Seq.{take-add}
 use Rattle.std.proofs.lemmas.List.{take_at}

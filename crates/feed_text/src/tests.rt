@@ -1,0 +1,160 @@
+// Texts and the octets that they stand for.
+use super::*;
+use outside::{MemSink, MemSource};
+use std::alloc::{AllocError, Global};
+use std::test::Fail;
+
+/// What writing a text puts out, and how it ends.
+fn written(alloc: Global, text: &[u8]) -> Result<(Vec<u8>, Result<(), WriteFault>), AllocError> {
+    let mut source = MemSource::new(text.to_vec(alloc)?, Vec::new(alloc));
+    let mut sink = MemSink::new(alloc, Vec::new(alloc));
+    let outcome = write(alloc, &mut source, &mut sink);
+    Ok((sink.octets().to_vec(alloc)?, outcome))
+}
+
+/// What showing octets puts out, and how it ends.
+fn shown(alloc: Global, octets: &[u8]) -> Result<(Vec<u8>, Result<(), ShowFault>), AllocError> {
+    let mut source = MemSource::new(octets.to_vec(alloc)?, Vec::new(alloc));
+    let mut sink = MemSink::new(alloc, Vec::new(alloc));
+    let outcome = show(alloc, Comments::Shown, &mut source, &mut sink);
+    Ok((sink.octets().to_vec(alloc)?, outcome))
+}
+
+/// Lines as they are shown, and the octets of their records.
+const ROWS: [(&[u8], &[u8]); 14] = [
+    (b"", b""),
+    (b"roster\n", b"C\0\0\0\0\0\0\0\0"),
+    (
+        b"roster\n| as 1\n|- \\\\\\x09\n",
+        b"C\0\0\0\0\0\0\0\x07as 1\n\\\x09",
+    ),
+    (
+        b"established 1 10.0.0.1\n",
+        b"E\0\0\0\x01\0\0\0\x04\x0a\0\0\x01",
+    ),
+    (b"connect 4\n", b"U\0\0\0\x04\0\0\0\0"),
+    (b"bgp 4\n", b"B\0\0\0\x04\0\0\0\0"),
+    (b"bgp 4 octets 0x00ff\n", b"B\0\0\0\x04\0\0\0\x02\0\xff"),
+    (b"close 258\n", b"X\0\0\x01\x02\0\0\0\0"),
+    (b"time 256\n", b"T\0\0\0\0\0\0\0\x08\0\0\0\0\0\0\x01\0"),
+    (b"work 1 500\n", b"W\0\0\0\0\0\0\0\x06\0\x01\0\0\x01\xf4"),
+    (b"drain\nend\n", b"D\0\0\0\0\0\0\0\0Z\0\0\0\0\0\0\0\0"),
+    (b"ospf octets 0x0204\n", b"L\0\0\0\0\0\0\0\x02\x02\x04"),
+    (b"record 0x44 7 0x\n", b"D\0\0\0\x07\0\0\0\0"),
+    (b"octets 0x44000000\n", b"D\0\0\0"),
+];
+
+#[test]
+fn octets_are_shown_as_lines_and_lines_are_written_as_octets(rt: HostRuntime) -> Result<(), Fail> {
+    let alloc = rt.alloc();
+    for (text, octets) in ROWS {
+        let (lines, end) = shown(alloc, octets)?;
+        assert_eq!(rt; lines.as_slice(), text);
+        assert_eq!(rt; end, Ok(()));
+        let (records, end) = written(alloc, text)?;
+        assert_eq!(rt; records.as_slice(), octets);
+        assert_eq!(rt; end, Ok(()));
+    }
+    Ok(())
+}
+
+#[test]
+fn blanks_and_comments_are_passed_over(rt: HostRuntime) -> Result<(), Fail> {
+    let alloc = rt.alloc();
+    let text = b"# a feed\r\n\n roster # here\n# within\n| as 1\r\n\t time\t7 #8\nend".as_slice();
+    let (records, end) = written(alloc, text)?;
+    assert_eq!(rt; end, Ok(()));
+    assert_eq!(rt;
+        records.as_slice(),
+        b"C\0\0\0\0\0\0\0\x05as 1\nT\0\0\0\0\0\0\0\x08\0\0\0\0\0\0\0\x07Z\0\0\0\0\0\0\0\0".as_slice()
+    );
+    Ok(())
+}
+
+#[test]
+fn the_first_faulty_line_is_refused_with_its_word(rt: HostRuntime) -> Result<(), Fail> {
+    let alloc = rt.alloc();
+    for (text, line, word, why) in [
+        (b"foo".as_slice(), 1, 1, Why::Word),
+        (b"end\nend now\n".as_slice(), 2, 2, Why::Word),
+        (b"time\ntime x\n".as_slice(), 1, 2, Why::Missing),
+        (b"time 18446744073709551616".as_slice(), 1, 2, Why::Value),
+        (b"connect 4294967296".as_slice(), 1, 2, Why::Value),
+        (b"established 1 10.0.0".as_slice(), 1, 3, Why::Value),
+        (b"work 65536 x".as_slice(), 1, 2, Why::Value),
+        (b"| as 1\n".as_slice(), 1, 1, Why::Roster),
+        (b"roster\nend\n| as 1\n".as_slice(), 3, 1, Why::Roster),
+        (b"roster\n|as 1\n".as_slice(), 2, 1, Why::Word),
+        (b"roster\n| \\n\n".as_slice(), 2, 2, Why::Value),
+        (b"bgp 1 octets 0x0\n".as_slice(), 1, 4, Why::Value),
+        (
+            b"bgp 1 octets 0x00 octets 0x00\n".as_slice(),
+            1,
+            5,
+            Why::Word,
+        ),
+        (b"bgp 1 octets 0x00 ;\n".as_slice(), 1, 6, Why::Missing),
+    ] {
+        let (_, end) = written(alloc, text)?;
+        assert_eq!(rt;
+            end,
+            Err(WriteFault::Text(TextFault { line, word, why })),
+            "at {text:?}"
+        );
+    }
+    Ok(())
+}
+
+#[test]
+fn a_feed_that_is_cut_has_a_text(rt: HostRuntime) -> Result<(), Fail> {
+    let alloc = rt.alloc();
+    let feed =
+        b"C\0\0\0\0\0\0\0\x04as 1E\0\0\0\x01\0\0\0\x04\x0a\0\0\x01B\0\0\0\x01\0\0\0\x03abc".as_slice();
+    for cut in 0..=feed.len() {
+        let (front, _) = feed.split_at(cut);
+        let (text, _) = shown(alloc, front)?;
+        let (octets, end) = written(alloc, &text)?;
+        assert_eq!(rt; octets.as_slice(), front, "cut at {cut}");
+        assert_eq!(rt; end, Ok(()));
+    }
+    Ok(())
+}
+
+#[test]
+fn a_failed_read_and_a_failed_write_are_reported(rt: HostRuntime) -> Result<(), Fail> {
+    let alloc = rt.alloc();
+    let mut source = MemSource::new(b"end\n".to_vec(alloc)?, [1].to_vec(alloc)?);
+    let mut sink = MemSink::new(alloc, Vec::new(alloc));
+    assert_eq!(rt; write(alloc, &mut source, &mut sink), Err(WriteFault::Read));
+    assert_eq!(rt;
+        show(alloc, Comments::Shown, &mut source, &mut sink),
+        Ok(())
+    );
+    assert_eq!(rt; sink.octets(), b"octets 0x656e640a\n".as_slice());
+    let mut source = MemSource::new(b"end\n".to_vec(alloc)?, Vec::new(alloc));
+    let mut sink = MemSink::new(alloc, [1].to_vec(alloc)?);
+    assert_eq!(rt;
+        write(alloc, &mut source, &mut sink),
+        Err(WriteFault::Write)
+    );
+    Ok(())
+}
+
+#[test]
+fn a_comment_names_the_messages_of_a_record(rt: HostRuntime) -> Result<(), Fail> {
+    let alloc = rt.alloc();
+    let update = b"B\0\0\0\x02\0\0\0\x47\
+\xff\xff\xff\xff\xff\xff\xff\xff\xff\xff\xff\xff\xff\xff\xff\xff\0\x34\x02\0\0\0\x19\
+\x40\x01\x01\0\x40\x02\x04\x02\x01\xfd\xe9\x40\x03\x04\x0a\0\0\x01\x40\x05\x04\0\0\0\x64\x18\xcb\0\x71\
+\xff\xff\xff\xff\xff\xff\xff\xff\xff\xff\xff\xff\xff\xff\xff\xff\0\x13\x04"
+        .as_slice();
+    let line = b"bgp 2 octets 0xffffffffffffffffffffffffffffffff0034020000001940010100\
+4002040201fde940030\
+40a0000014005040000006418cb0071ffffffffffffffffffffffffffffffff001304 \
+# update origin=igp path=65001 next-hop=10.0.0.1 local-pref=100 nlri=203.0.113.0/24 ; keepalive\n"
+        .as_slice();
+    let (text, end) = shown(alloc, update)?;
+    assert_eq!(rt; text.as_slice(), line);
+    assert_eq!(rt; end, Ok(()));
+    Ok(())
+}

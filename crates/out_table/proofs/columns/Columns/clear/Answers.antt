@@ -1,0 +1,29 @@
+use Rattle.std.proofs.Common.{◌≡◌, ◌<◌, List, [], length, replicate, refl, sym, ap, subst, rules}
+use Rattle.std.proofs.Math.ListN.{set}
+use Rattle.out_table.specs.Cells.{Cells, no_number}
+use Rattle.out_table.specs.Places.{cells_at}
+use Rattle.out_table.specs.Columns.{DirtyOf, ColumnsOf, columns_in}
+use Rattle.out_table.proofs.ColumnLemmas.{seat_of, member_of, emptied_at, seen}
+use Rattle.out_table.proofs.columns.Columns.clear.Goals as goal
+
+pub empty-requires-clause-slot : goal.empty-requires-clause-slot
+empty-requires-clause-slot c =
+    let t = c.self.inside in
+    let is : columns_in t.members t.lines t.numbers.items t.dirty.items ≡ c.args.self.now.items = ap (λ (v : ColumnsOf). v.items) c.self.view_is in
+    member_of t.members t.lines t.numbers.items t.dirty.items c.self.invariant c.args.self.now.items is c.args.slot c.requires
+
+pub index_mut-dirty-requires : goal.index_mut-dirty-requires
+index_mut-dirty-requires c =
+    let t = c.self.inside in
+    let is : columns_in t.members t.lines t.numbers.items t.dirty.items ≡ c.args.self.now.items = ap (λ (v : ColumnsOf). v.items) c.self.view_is in
+    let seat : c.args.slot < length t.dirty.items = seat_of t.members t.lines t.numbers.items t.dirty.items c.self.invariant c.args.self.now.items is c.args.slot c.requires in
+    search rules
+
+pub returns : goal.returns
+returns c =
+    let t = c.self.inside in
+    let is : columns_in t.members t.lines t.numbers.items t.dirty.items ≡ c.args.self.now.items = ap (λ (v : ColumnsOf). v.items) c.self.view_is in
+    seen (λ (l : List Cells). set l c.args.slot (let v : Cells = record { numbers = replicate (length (cells_at c.args.slot l).numbers) no_number; dirty = [] } in v))
+    t.members (columns_in t.members t.lines t.numbers.items t.dirty.items) (columns_in t.members t.lines c.empty.new.numbers.items (set t.dirty.items c.args.slot c.clear.new.self)) c.args.self.now c.self.view_is
+    (emptied_at t.members t.lines t.numbers.items t.dirty.items c.self.invariant (columns_in t.members t.lines t.numbers.items t.dirty.items) refl c.args.slot
+    (subst (λ (l : List Cells). c.args.slot < length l) (sym is) c.requires) c.empty.new.numbers.items c.clear.new.self c.empty.ensures (ap (λ (d : DirtyOf). d.places) c.clear.ensures))

@@ -1,8 +1,0 @@
-use Rattle.std.proofs.Common.{◌≡◌, length}
-use Rattle.rcp_model.specs.RouteServer.{cost_differs}
-use Rattle.rcs_shard.proofs.MarkingLemmas.{marked_below}
-use Rattle.rcs_shard.proofs.marking.mark_moved.Given as goal
-
-abbrev pub invariant-loop-slot : goal.invariant-loop-slot
-invariant-loop-slot l =
-    l.pending ≡ marked_below l.ribs (λ e. cost_differs l.before.edges l.now.edges l.before.members e (length l.before.members)) l.slot l.initial.pending

@@ -1,0 +1,4 @@
+pub mod Deeds
+pub mod Ended
+pub mod Running
+pub mod Served
