@@ -1,4 +1,4 @@
-//! Path attributes in words, for comments.
+//! Path attributes in words.
 
 ghost use Rattle.std.specs.Prelude.{◌<◌, length, IfSome};
 

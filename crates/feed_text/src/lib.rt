@@ -19,7 +19,9 @@
 #![tactic(auto)]
 
 mod attributes;
+mod capabilities;
 mod checker;
+mod comments;
 mod messages;
 mod numbers;
 mod octets;
@@ -31,8 +33,8 @@ mod showing;
 mod window;
 mod writing;
 
+pub use comments::Comments;
 pub use feed_words::{TextFault, Why};
-pub use records::Comments;
 pub use showing::{ShowFault, show};
 pub use writing::{WriteFault, write};
 

@@ -1,8 +1,9 @@
-//! BGP messages in words, for comments.
+//! BGP messages in words.
 
 ghost use Rattle.std.specs.Prelude.{◌<◌, length, IfSome};
 
 use crate::attributes::push_attributes;
+use crate::capabilities::{push_parameter, split_coded};
 use crate::numbers::{push_address, push_number};
 use crate::octets::push_hex;
 use std::alloc::AllocError;
@@ -10,21 +11,26 @@ use std::alloc::AllocError;
 /// The octets before a message's body: a marker, a length and a type (RFC 4271 section 4.1).
 const HEADER: usize = 19;
 
-/// Appends a comment that names the whole messages that the body of a record begins with. None where it begins with none.
+/// Appends the messages of a record's body as parts with `;` between them, and what stands in no whole message as octets.
 pub fn push_messages(text: &mut Vec<u8>, body: &[u8]) -> Result<(), AllocError> {
     let mut rest = body;
-    let mut mark = b" # ".as_slice();
+    let mut mark = b" ".as_slice();
     while let Some((kind, message, more)) = split_message(rest) {
         text.extend_from_slice(mark)?;
         push_message(text, kind, message)?;
         mark = b" ; ".as_slice();
         rest = more;
     }
-    Ok(())
+    if rest.is_empty() {
+        return Ok(());
+    }
+    text.extend_from_slice(mark)?;
+    text.extend_from_slice(b"octets ")?;
+    push_hex(text, rest)
 }
 
 /// The message in front: its type, its body, and the octets after it.
-fn split_message(octets: &[u8]) -> Option<(u8, &[u8], &[u8])>
+pub fn split_message(octets: &[u8]) -> Option<(u8, &[u8], &[u8])>
     ensures { IfSome result (λ found. length found.2.now < length octets.now) }
 {
     if octets.len() < HEADER {
@@ -56,14 +62,16 @@ fn push_message(text: &mut Vec<u8>, kind: u8, body: &[u8]) -> Result<(), AllocEr
         (2, _) => push_update(text, body),
         (3, [code, subcode, data @ ..]) => push_notification(text, *code, *subcode, data),
         (4, []) => text.extend_from_slice(b"keepalive"),
-        _ => push_any(text, kind),
+        _ => push_any(text, kind, body),
     }
 }
 
 /// A message whose body has no names.
-fn push_any(text: &mut Vec<u8>, kind: u8) -> Result<(), AllocError> {
+fn push_any(text: &mut Vec<u8>, kind: u8, body: &[u8]) -> Result<(), AllocError> {
     text.extend_from_slice(b"message ")?;
-    push_number(text, u64::from(kind))
+    push_number(text, u64::from(kind))?;
+    text.push(b' ')?;
+    push_hex(text, body)
 }
 
 /// OPEN: AS number, hold time in seconds, BGP Identifier (RFC 4271 section 4.2).
@@ -82,11 +90,15 @@ fn push_open(text: &mut Vec<u8>, version: u8, fields: [u8; 8]) -> Result<(), All
     push_number(text, u64::from(version))
 }
 
-/// The optional parameters of an OPEN, and what stands after them.
+/// The optional parameters of an OPEN, and what stands after the last whole one.
 fn push_parameters(text: &mut Vec<u8>, count: u8, octets: &[u8]) -> Result<(), AllocError> {
     let count = usize::from(count).min(octets.len());
     let (parameters, rest) = octets.split_at(count);
-    push_octets_word(text, b" parameters=", parameters)?;
+    let mut left = parameters;
+    while let Some((kind, value, more)) = split_coded(left) {
+        push_parameter(text, kind, value)?;
+        left = more;
+    }
     push_octets_word(text, b" rest=", rest)
 }
 
@@ -116,10 +128,10 @@ fn push_notification(
 /// UPDATE: withdrawn routes, path attributes and NLRI (RFC 4271 section 4.3).
 fn push_update(text: &mut Vec<u8>, body: &[u8]) -> Result<(), AllocError> {
     let Some((withdrawn, rest)) = split_section(body) else {
-        return push_any(text, 2);
+        return push_any(text, 2, body);
     };
     let Some((attributes, nlri)) = split_section(rest) else {
-        return push_any(text, 2);
+        return push_any(text, 2, body);
     };
     text.extend_from_slice(b"update")?;
     push_prefixes(text, b" withdrawn=", withdrawn)?;

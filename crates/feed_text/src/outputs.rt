@@ -1,35 +1,26 @@
-//! Records of an output in words, for comments.
+//! Records of an output in words.
 
 use crate::numbers::push_number;
 use std::alloc::AllocError;
 
-/// Appends a comment on the end of a connection: the reason, and the code and subcode of its NOTIFICATION.
+/// Appends the reason of a connection's end, and the code and subcode of its NOTIFICATION.
 pub fn push_end(text: &mut Vec<u8>, reason: u8, code: u8, subcode: u8) -> Result<(), AllocError> {
     let word = match reason {
-        1 => b" # closed: fault".as_slice(),
-        2 => b" # closed: notification received".as_slice(),
-        3 => b" # closed: the connection ended".as_slice(),
-        4 => b" # closed: the seat is taken".as_slice(),
-        _ => return Ok(()),
+        1 => b" fault ".as_slice(),
+        2 => b" received ",
+        3 => return text.extend_from_slice(b" peer-closed"),
+        _ => b" seat-taken ",
     };
     text.extend_from_slice(word)?;
-    if reason == 3 {
-        return Ok(());
-    }
-    text.push(b' ')?;
     push_number(text, u64::from(code))?;
     text.push(b'/')?;
     push_number(text, u64::from(subcode))
 }
 
-/// Appends a comment on a summary: connected routers, announced prefixes, and UPDATEs written so far.
+/// Appends a summary: connected routers, announced prefixes, and UPDATEs written so far.
 pub fn push_summary(text: &mut Vec<u8>, body: &[u8]) -> Result<(), AllocError> {
     let mut rest = body;
-    for word in [
-        b" # summary: routers=".as_slice(),
-        b" prefixes=",
-        b" updates=",
-    ] {
+    for word in [b"summary routers=".as_slice(), b" prefixes=", b" updates="] {
         let Some((count, more)) = split_count(rest) else {
             return Ok(());
         };

@@ -5,8 +5,9 @@ ghost use Rattle.feed_words.specs.Joining.{EndsLine};
 ghost use Rattle.feed_text.specs.Turns.{Spells};
 
 use crate::checker::Checker;
+use crate::comments::Comments;
 use crate::octets::push_octets_line;
-use crate::records::{Comments, push_named, push_record, raw_of};
+use crate::records::{push_named, push_record, raw_of};
 use feed_words::octets_are_read_again;
 use rcp_base::NoMemory;
 use std::alloc::Global;

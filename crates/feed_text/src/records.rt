@@ -1,21 +1,13 @@
 //! Records with names. What is written here is a proposal: the printer takes it only where it stands for the record's
 //! octets.
 
+use crate::comments::{Comments, push_comment};
 use crate::messages::push_messages;
 use crate::numbers::{push_address, push_number, push_number_word};
 use crate::octets::push_hex;
 use crate::outputs::{push_end, push_summary, split_count};
 use crate::roster::push_roster;
 use std::alloc::AllocError;
-
-/// Whether the lines that are shown have comments.
-#[derive(Clone, Copy, Debug, PartialEq, Eq)]
-pub enum Comments {
-    /// A comment at a line's end names the BGP messages that a record begins with, and says what an output's S or X is.
-    Shown,
-    /// No line has a comment.
-    LeftOut,
-}
 
 /// A record of a feed or an output, as it lies in the input.
 #[derive(Clone, Copy)]
@@ -55,10 +47,20 @@ pub fn push_named(text: &mut Vec<u8>, raw: Raw<'_>, comments: Comments) -> Resul
             push_word_of(text, b"close ", raw.source)?;
             end_line(text)
         }
+        (b'X', [reason @ 1..=4, code, subcode]) => {
+            push_word_of(text, b"close ", raw.source)?;
+            push_end(text, *reason, *code, *subcode)?;
+            push_shown_comment(text, raw, comments)?;
+            end_line(text)
+        }
+        (b'S', body) => {
+            push_summary(text, body)?;
+            end_line(text)
+        }
         (b'B', body) => {
             push_word_of(text, b"bgp ", raw.source)?;
-            push_octets_part(text, body)?;
-            push_comment(text, raw, comments)?;
+            push_messages(text, body)?;
+            push_shown_comment(text, raw, comments)?;
             end_line(text)
         }
         (b'L', body) => {
@@ -76,26 +78,18 @@ pub fn push_named(text: &mut Vec<u8>, raw: Raw<'_>, comments: Comments) -> Resul
         (b'Z', _) => text.extend_from_slice(b"end\n"),
         (b'T', body) => push_count(text, b"time ", body),
         (b'Q', body) => push_count(text, b"ospf-lost ", body),
-        _ => {
-            push_record_words(text, raw)?;
-            push_comment(text, raw, comments)?;
-            end_line(text)
-        }
+        _ => push_record(text, raw),
     }
 }
 
 /// Appends the line of a record of any kind.
 pub fn push_record(text: &mut Vec<u8>, raw: Raw<'_>) -> Result<(), AllocError> {
-    push_record_words(text, raw)?;
-    end_line(text)
-}
-
-fn push_record_words(text: &mut Vec<u8>, raw: Raw<'_>) -> Result<(), AllocError> {
     text.extend_from_slice(b"record ")?;
     push_hex(text, &[raw.kind])?;
     push_number_word(text, u64::from(raw.source))?;
     text.push(b' ')?;
-    push_hex(text, raw.body)
+    push_hex(text, raw.body)?;
+    end_line(text)
 }
 
 /// A kind, and the number of a connection.
@@ -122,15 +116,14 @@ fn push_octets_part(text: &mut Vec<u8>, octets: &[u8]) -> Result<(), AllocError>
     push_hex(text, octets)
 }
 
-/// Appends what a record says, as a comment.
-fn push_comment(text: &mut Vec<u8>, raw: Raw<'_>, comments: Comments) -> Result<(), AllocError> {
-    match (comments, raw.kind, raw.body) {
-        (Comments::Shown, b'B', body) => push_messages(text, body),
-        (Comments::Shown, b'S', body) => push_summary(text, body),
-        (Comments::Shown, b'X', [reason, code, subcode]) => {
-            push_end(text, *reason, *code, *subcode)
-        }
-        _ => Ok(()),
+fn push_shown_comment(
+    text: &mut Vec<u8>,
+    raw: Raw<'_>,
+    comments: Comments,
+) -> Result<(), AllocError> {
+    match comments {
+        Comments::Shown => push_comment(text, raw),
+        Comments::LeftOut => Ok(()),
     }
 }
 

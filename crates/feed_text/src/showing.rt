@@ -8,8 +8,8 @@ ghost use Rattle.feed_text.specs.Windows.{Held, SameOctets, IsEmptyRest};
 ghost use Rattle.feed_text.specs.Shown.{ShowsAll};
 ghost use Rattle.feed_text.specs.Turns.{Spells, Turns};
 
+use crate::comments::Comments;
 use crate::printer::Printer;
-use crate::records::Comments;
 use crate::window::Window;
 use feed_words::texts_join;
 use outside::{Failed, Sink, Source, write_all};

@@ -94,6 +94,21 @@ fn the_first_faulty_line_is_refused_with_its_word(rt: HostRuntime) -> Result<(),
             Why::Word,
         ),
         (b"bgp 1 octets 0x00 ;\n".as_slice(), 1, 6, Why::Missing),
+        (b"bgp 1 update origin=igq\n".as_slice(), 1, 4, Why::Value),
+        (
+            b"bgp 1 update nlri=10.0.0.0/8 origin=igp\n".as_slice(),
+            1,
+            5,
+            Why::Word,
+        ),
+        (
+            b"bgp 1 update path=65536 nlri=10.0.0.0/33\n".as_slice(),
+            1,
+            4,
+            Why::Value,
+        ),
+        (b"bgp 1 open hold=90\n".as_slice(), 1, 4, Why::Missing),
+        (b"close 1 fault 3/256\n".as_slice(), 1, 4, Why::Value),
     ] {
         let (_, end) = written(alloc, text)?;
         assert_eq!(rt;
@@ -140,21 +155,57 @@ fn a_failed_read_and_a_failed_write_are_reported(rt: HostRuntime) -> Result<(), 
     Ok(())
 }
 
-#[test]
-fn a_comment_names_the_messages_of_a_record(rt: HostRuntime) -> Result<(), Fail> {
-    let alloc = rt.alloc();
-    let update = b"B\0\0\0\x02\0\0\0\x47\
+/// Records, and the lines that show them: messages, path attributes and capabilities by their names, and in hexadecimal what has
+/// none.
+const WORDS: [(&[u8], &[u8]); 7] = [
+    (
+        b"B\0\0\0\x02\0\0\0\x47\
 \xff\xff\xff\xff\xff\xff\xff\xff\xff\xff\xff\xff\xff\xff\xff\xff\0\x34\x02\0\0\0\x19\
 \x40\x01\x01\0\x40\x02\x04\x02\x01\xfd\xe9\x40\x03\x04\x0a\0\0\x01\x40\x05\x04\0\0\0\x64\x18\xcb\0\x71\
-\xff\xff\xff\xff\xff\xff\xff\xff\xff\xff\xff\xff\xff\xff\xff\xff\0\x13\x04"
-        .as_slice();
-    let line = b"bgp 2 octets 0xffffffffffffffffffffffffffffffff0034020000001940010100\
-4002040201fde940030\
-40a0000014005040000006418cb0071ffffffffffffffffffffffffffffffff001304 \
-# update origin=igp path=65001 next-hop=10.0.0.1 local-pref=100 nlri=203.0.113.0/24 ; keepalive\n"
-        .as_slice();
-    let (text, end) = shown(alloc, update)?;
-    assert_eq!(rt; text.as_slice(), line);
-    assert_eq!(rt; end, Ok(()));
+\xff\xff\xff\xff\xff\xff\xff\xff\xff\xff\xff\xff\xff\xff\xff\xff\0\x13\x04",
+        b"bgp 2 update origin=igp path=65001 next-hop=10.0.0.1 local-pref=100 nlri=203.0.113.0/24 ; keepalive\n",
+    ),
+    (
+        b"B\0\0\0\x01\0\0\0\x2d\
+\xff\xff\xff\xff\xff\xff\xff\xff\xff\xff\xff\xff\xff\xff\xff\xff\0\x2d\x01\x04\x5b\xa0\0\x5a\x0a\0\0\x04\x10\
+\x02\x06\x01\x04\0\x01\0\x01\x02\x06\x41\x04\0\x01\x11\x70",
+        b"bgp 1 open as=23456 hold=90 id=10.0.0.4 caps=mp:1/1 caps=as4:70000\n",
+    ),
+    (
+        b"B\0\0\0\x01\0\0\0\x16\
+\xff\xff\xff\xff\xff\xff\xff\xff\xff\xff\xff\xff\xff\xff\xff\xff\0\x16\x03\x06\x02\x05",
+        b"bgp 1 notification 6/2 data=0x05 # Administrative Shutdown\n",
+    ),
+    (
+        b"B\0\0\0\x01\0\0\0\x1b\
+\xff\xff\xff\xff\xff\xff\xff\xff\xff\xff\xff\xff\xff\xff\xff\xff\0\x1b\x02\0\0\0\x04\x40\x01\x01\x03",
+        b"bgp 1 update origin=0x03\n",
+    ),
+    (
+        b"B\0\0\0\x01\0\0\0\x17\
+\xff\xff\xff\xff\xff\xff\xff\xff\xff\xff\xff\xff\xff\xff\xff\xff\0\x17\x02\0\0\0\0",
+        b"bgp 1 update # End-of-RIB\n",
+    ),
+    (
+        b"X\0\0\0\x01\0\0\0\x03\x01\x03\x06",
+        b"close 1 fault 3/6 # Invalid ORIGIN Attribute\n",
+    ),
+    (
+        b"S\0\0\0\0\0\0\0\x18\0\0\0\0\0\0\0\x03\0\0\0\0\0\0\0\x01\0\0\0\0\0\0\x01\0",
+        b"summary routers=3 prefixes=1 updates=256\n",
+    ),
+];
+
+#[test]
+fn messages_are_shown_and_written_as_words(rt: HostRuntime) -> Result<(), Fail> {
+    let alloc = rt.alloc();
+    for (octets, text) in WORDS {
+        let (lines, end) = shown(alloc, octets)?;
+        assert_eq!(rt; lines.as_slice(), text);
+        assert_eq!(rt; end, Ok(()));
+        let (records, end) = written(alloc, text)?;
+        assert_eq!(rt; records.as_slice(), octets);
+        assert_eq!(rt; end, Ok(()));
+    }
     Ok(())
 }

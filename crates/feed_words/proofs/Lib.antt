@@ -4,3 +4,4 @@ pub mod TextLemmas
 pub mod OctetsLineLemmas
 pub mod PartLemmas
 pub mod EscapeLemmas
+pub mod ListLemmas

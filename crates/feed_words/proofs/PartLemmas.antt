@@ -6,7 +6,7 @@ use Rattle.feed_words.specs.declared.fault.Why.TheVariants as why
 use Rattle.feed_words.specs.declared.fault.Stop.{Stop}
 use Rattle.feed_words.specs.declared.fault.Stop.TheVariants as stop
 use Rattle.feed_words.specs.Reading.{Fails, faulty}
-use Rattle.feed_words.specs.Records.{parts_within}
+use Rattle.feed_words.specs.Parts.{parts_within}
 
 abbrev Part : Type 0
 Part = List ℕ → List (List ℕ) → Result (List ℕ × List (List ℕ)) WordFault

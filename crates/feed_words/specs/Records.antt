@@ -1,33 +1,15 @@
 -- The record that the words of a line stand for.
-use Rattle.std.specs.Prelude.{ℕ, zero, suc, ◌^◌, List, [], ◌∷◌, ◌++◌, length, Result, Ok, nat_lt, if◌then◌else◌, bytes_eq, codes}
+use Rattle.std.specs.Prelude.{ℕ, List, [], ◌∷◌, ◌++◌, length, Result, Ok, nat_lt, if◌then◌else◌, bytes_eq, codes}
 use Rattle.std.specs.Int.{w16, w32, w64, to_be_bytes}
 use Rattle.rcp_base.specs.Feed.{OutRecord, frame}
-use Rattle.rcp_base.specs.Text.{number_of, address_of}
 use Rattle.feed_words.specs.declared.fault.Why.TheVariants as why
 use Rattle.feed_words.specs.declared.fault.WordFault.{WordFault}
+use Rattle.feed_words.specs.declared.parts.Protocol.TheVariants as protocol
+use Rattle.rcp_base.specs.Text.{number_of}
 use Rattle.feed_words.specs.Reading.{◌>>=◌, faulty, value_word, ended}
-use Rattle.feed_words.specs.Words.{below, hex_onto, hex_octet}
-
--- ---- values
-
-abbrev pub u16_word : List (List ℕ) → Result (ℕ × List (List ℕ)) WordFault
-u16_word ws = value_word (λ w. below (2 ^ 16) (number_of w)) ws
-
-abbrev pub u32_word : List (List ℕ) → Result (ℕ × List (List ℕ)) WordFault
-u32_word ws = value_word (λ w. below (2 ^ 32) (number_of w)) ws
-
-abbrev pub u64_word : List (List ℕ) → Result (ℕ × List (List ℕ)) WordFault
-u64_word ws = value_word number_of ws
-
-abbrev pub address_word : List (List ℕ) → Result (ℕ × List (List ℕ)) WordFault
-address_word ws = value_word address_of ws
-
-abbrev pub octet_word : List (List ℕ) → Result (ℕ × List (List ℕ)) WordFault
-octet_word ws = value_word hex_octet ws
-
--- octets in hexadecimal, after those of a list
-abbrev pub hex_word : List ℕ → List (List ℕ) → Result (List ℕ × List (List ℕ)) WordFault
-hex_word out ws = value_word (hex_onto out) ws
+use Rattle.feed_words.specs.Values.{u16_word, u32_word, u64_word, address_word, octet_word, hex_word}
+use Rattle.feed_words.specs.Fields.{field, code_onto}
+use Rattle.feed_words.specs.Parts.{part_of, parts}
 
 -- ---- records of fixed fields
 
@@ -74,12 +56,32 @@ ospf_lost ws = do
   _ ← ended place.1
   Ok (record { kind = 81; connection = 0; body = to_be_bytes w64 place.0 })
 
--- X, without a reason
+-- the end of a connection in an output: a fault, a NOTIFICATION that came, the end that the peer made, a seat that is taken
+unfoldable pub reason : List (List ℕ) → Result (List ℕ × List (List ℕ)) WordFault
+reason [] = Ok ([], [])
+reason (w ∷ ws) =
+    if bytes_eq w (codes "fault") then value_word (code_onto (1 ∷ [])) ws else (
+    if bytes_eq w (codes "received") then value_word (code_onto (2 ∷ [])) ws else (
+    if bytes_eq w (codes "peer-closed") then Ok (3 ∷ 0 ∷ 0 ∷ [], ws) else (
+    if bytes_eq w (codes "seat-taken") then value_word (code_onto (4 ∷ [])) ws else
+    faulty (w ∷ ws) why.Word)))
+
+-- X, without a reason in a feed
 unfoldable pub close : List (List ℕ) → Result OutRecord WordFault
 close ws = do
   source ← u32_word ws
-  _ ← ended source.1
-  Ok (record { kind = 88; connection = source.0; body = [] })
+  body ← reason source.1
+  _ ← ended body.1
+  Ok (record { kind = 88; connection = source.0; body = body.0 })
+
+-- S: connected routers, announced prefixes, UPDATEs so far
+unfoldable pub summary : List (List ℕ) → Result OutRecord WordFault
+summary ws = do
+  routers ← field (codes "routers=") number_of ws
+  prefixes ← field (codes "prefixes=") number_of routers.1
+  updates ← field (codes "updates=") number_of prefixes.1
+  _ ← ended updates.1
+  Ok (record { kind = 83; connection = 0; body = to_be_bytes w64 routers.0 ++ to_be_bytes w64 prefixes.0 ++ to_be_bytes w64 updates.0 })
 
 -- any other
 unfoldable pub any_record : List (List ℕ) → Result OutRecord WordFault
@@ -92,37 +94,17 @@ any_record ws = do
 
 -- ---- records of parts
 
--- a part of a `bgp` or an `ospf` line
-unfoldable pub octets_part : List ℕ → List (List ℕ) → Result (List ℕ × List (List ℕ)) WordFault
-octets_part out [] = faulty [] why.Missing
-octets_part out (w ∷ ws) = if bytes_eq w (codes "octets") then hex_word out ws else faulty (w ∷ ws) why.Word
-
--- parts with `;` between them
-unfoldable pub parts_within : (List ℕ → List (List ℕ) → Result (List ℕ × List (List ℕ)) WordFault) → ℕ → List ℕ → List (List ℕ) → Result (List ℕ) WordFault
-parts_within part zero out ws = faulty ws why.Long
-parts_within part (suc most) out ws = do
-  first ← part out ws
-  elim first.1 [
-    | [] ↦ Ok first.0
-    | w ∷ rest ↦ if bytes_eq w (codes ";") then parts_within part most first.0 rest else faulty (w ∷ rest) why.Word
-  ]
-
--- none, or at most 2 ^ 20 of them, as many octets as a line has
-abbrev pub parts : (List ℕ → List (List ℕ) → Result (List ℕ × List (List ℕ)) WordFault) → List (List ℕ) → Result (List ℕ) WordFault
-parts part [] = Ok []
-parts part (w ∷ ws) = parts_within part (2 ^ 20) [] (w ∷ ws)
-
 -- B
 unfoldable pub bgp : List (List ℕ) → Result OutRecord WordFault
 bgp ws = do
   source ← u32_word ws
-  body ← parts octets_part source.1
+  body ← parts (part_of protocol.Bgp) source.1
   Ok (record { kind = 66; connection = source.0; body = body })
 
 -- L
 unfoldable pub ospf : List (List ℕ) → Result OutRecord WordFault
 ospf ws = do
-  body ← parts octets_part ws
+  body ← parts (part_of protocol.Ospf) ws
   Ok (record { kind = 76; connection = 0; body = body })
 
 -- ---- all of them
@@ -131,8 +113,9 @@ ospf ws = do
 unfoldable pub rare_record : List ℕ → List (List ℕ) → Result OutRecord WordFault
 rare_record word ws =
     if bytes_eq word (codes "ospf-lost") then ospf_lost ws else (
+    if bytes_eq word (codes "summary") then summary ws else (
     if bytes_eq word (codes "record") then any_record ws else
-    faulty (word ∷ ws) why.Word)
+    faulty (word ∷ ws) why.Word))
 
 -- of the platform
 unfoldable pub platform_record : List ℕ → List (List ℕ) → Result OutRecord WordFault

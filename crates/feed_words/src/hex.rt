@@ -3,7 +3,7 @@
 ghost use Rattle.std.specs.Prelude.{◌≡◌, [], Some, None, OnOk, IfOk, List, ℕ, Bool, if◌then◌else◌};
 ghost use Rattle.feed_words.specs.Words.{words_of, hex_digit, of_two_digits, hex_pairs_onto, hex_onto, hex_octet};
 ghost use Rattle.feed_words.specs.Reading.{Gives};
-ghost use Rattle.feed_words.specs.Records.{octet_word, hex_word};
+ghost use Rattle.feed_words.specs.Values.{octet_word, hex_word, octets_part};
 
 use crate::fault::{Stop, Why};
 use crate::words::{fault, next_word};
@@ -85,5 +85,18 @@ pub fn hex_word<'a>(words: &'a [u8], out: &mut Vec<u8>) -> Result<&'a [u8], Stop
         Ok(rest)
     } else {
         Err(fault(words, Why::Value))
+    }
+}
+
+/// A part of octets in hexadecimal.
+#[tactic(auto, unfolding(crate::specs::Values::octets_part))]
+pub fn octets_part<'a>(words: &'a [u8], out: &mut Vec<u8>) -> Result<&'a [u8], Stop>
+    ensures { Gives (λ rest. (out.new.items, words_of rest.now)) result (octets_part out.old.items (words_of words.now)) }
+{
+    let (word, rest) = next_word(words)?;
+    if word == b"octets".as_slice() {
+        hex_word(rest, out)
+    } else {
+        Err(fault(words, Why::Word))
     }
 }

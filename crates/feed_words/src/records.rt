@@ -1,15 +1,17 @@
 //! The record that the words of a line stand for.
 
-ghost use Rattle.std.specs.Prelude.{◌≡◌, ◌≤◌, ◌^◌, [], ◌∷◌, ◌++◌, length, IfOk, OnOk, IsSome, ℕ, List, Option, Some, None, Result, Ok, Err, codes, bytes_eq};
+ghost use Rattle.std.specs.Prelude.{◌≡◌, ◌≤◌, ◌^◌, [], ◌∷◌, ◌++◌, length, IfOk, OnOk, IsSome, ℕ, List, Option, Some, None, Result, Ok, Err};
 ghost use Rattle.feed_words.specs.Words.{words_of};
 ghost use Rattle.feed_words.specs.Reading.{Gives};
 ghost use Rattle.feed_words.specs.Heads.{GivesRecord, GivesPiece, piece_octets};
-ghost use Rattle.feed_words.specs.Records.{established, connect, time, work, bare, ospf_lost, close, any_record, octets_part, parts_within, parts, bgp, ospf, rare_record, platform_record, record_of, fitting_record, words_octets};
+ghost use Rattle.feed_words.specs.Records.{established, connect, time, work, bare, ospf_lost, reason, close, summary, any_record, bgp, ospf, rare_record, platform_record, record_of, fitting_record, words_octets};
 
 use crate::fault::{Stop, Why};
+use crate::fields::{code_word, u64_field};
 use crate::hex::{hex_word, octet_word};
+use crate::parts::{Protocol, parts};
 use crate::values::{address_word, u16_word, u32_word, u64_word};
-use crate::words::{ended, fault, next_word, split_word};
+use crate::words::{ended, fault, split_word};
 use std::alloc::AllocError;
 
 /// The fields of a record before its body.
@@ -21,9 +23,6 @@ pub(crate) struct Head {
 
 /// The most octets that a body has.
 const MOST_BODY: usize = 65536;
-
-/// The most parts that a line has.
-const MOST_PARTS: u32 = 1 << 20;
 
 #[tactic(auto, unfolding(crate::specs::Records::established))]
 fn established(words: &[u8], body: &mut Vec<u8>) -> Result<Head, Stop>
@@ -101,14 +100,59 @@ fn ospf_lost(words: &[u8], body: &mut Vec<u8>) -> Result<Head, Stop>
     })
 }
 
+/// Appends the reason, code and subcode of a connection's end, where words give them.
+#[tactic(auto, unfolding(crate::specs::Records::reason))]
+fn reason<'a>(words: &'a [u8], body: &mut Vec<u8>) -> Result<&'a [u8], Stop>
+    requires { body.old.items ≡ [] }
+    ensures { Gives (λ rest. (body.new.items, words_of rest.now)) result (reason (words_of words.now)) }
+{
+    let Some((word, rest)) = split_word(words) else {
+        return Ok(words);
+    };
+    if word == b"fault".as_slice() {
+        body.push(1)?;
+        code_word(rest, body)
+    } else if word == b"received".as_slice() {
+        body.push(2)?;
+        code_word(rest, body)
+    } else if word == b"peer-closed".as_slice() {
+        body.extend_from_slice(&[3, 0, 0])?;
+        Ok(rest)
+    } else if word == b"seat-taken".as_slice() {
+        body.push(4)?;
+        code_word(rest, body)
+    } else {
+        Err(fault(words, Why::Word))
+    }
+}
+
 #[tactic(auto, unfolding(crate::specs::Records::close))]
-fn close(words: &[u8], body: &Vec<u8>) -> Result<Head, Stop>
-    requires { body.now.items ≡ [] }
-    ensures { GivesRecord result body.now.items (close (words_of words.now)) }
+fn close(words: &[u8], body: &mut Vec<u8>) -> Result<Head, Stop>
+    requires { body.old.items ≡ [] }
+    ensures { GivesRecord result body.new.items (close (words_of words.now)) }
 {
     let (source, words) = u32_word(words)?;
+    let words = reason(words, body)?;
     ended(words)?;
     Ok(Head { kind: b'X', source })
+}
+
+#[tactic(auto, unfolding(crate::specs::Records::summary))]
+fn summary(words: &[u8], body: &mut Vec<u8>) -> Result<Head, Stop>
+    requires { body.old.items ≡ [] }
+    ensures { GivesRecord result body.new.items (summary (words_of words.now)) }
+{
+    let (routers, words) = u64_field(words, b"routers=")?;
+    let (prefixes, words) = u64_field(words, b"prefixes=")?;
+    let (updates, words) = u64_field(words, b"updates=")?;
+    ended(words)?;
+    body.extend_from_slice(&routers.to_be_bytes())?;
+    body.extend_from_slice(&prefixes.to_be_bytes())?;
+    body.extend_from_slice(&updates.to_be_bytes())?;
+    Ok(Head {
+        kind: b'S',
+        source: 0,
+    })
 }
 
 /// A record of any kind.
@@ -124,63 +168,13 @@ fn any_record(words: &[u8], body: &mut Vec<u8>) -> Result<Head, Stop>
     Ok(Head { kind, source })
 }
 
-/// A part of octets in hexadecimal.
-#[tactic(auto, unfolding(crate::specs::Records::octets_part))]
-fn octets_part<'a>(words: &'a [u8], body: &mut Vec<u8>) -> Result<&'a [u8], Stop>
-    ensures { Gives (λ rest. (body.new.items, words_of rest.now)) result (octets_part body.old.items (words_of words.now)) }
-{
-    let (word, rest) = next_word(words)?;
-    if word == b"octets".as_slice() {
-        hex_word(rest, body)
-    } else {
-        Err(fault(words, Why::Word))
-    }
-}
-
-/// The word between two parts.
-fn is_separator(word: &[u8]) -> bool
-    ensures { result ≡ bytes_eq word.now (codes ";") }
-{
-    word == b";".as_slice()
-}
-
-/// The parts of a `bgp` or an `ospf` line.
-fn parts(words: &[u8], body: &mut Vec<u8>) -> Result<(), Stop>
-    requires { body.old.items ≡ [] }
-    ensures { Gives (λ _. body.new.items) result (parts octets_part (words_of words.now)) }
-{
-    match split_word(words) {
-        Some(_) => some_parts(words, body),
-        None => Ok(()),
-    }
-}
-
-fn some_parts(words: &[u8], body: &mut Vec<u8>) -> Result<(), Stop>
-    ensures { Gives (λ _. body.new.items) result (parts_within octets_part (2 ^ 20) body.old.items (words_of words.now)) }
-{
-    let mut rest = words;
-    for _ in 0..MOST_PARTS {
-        let more = octets_part(rest, body)?;
-        match split_word(more) {
-            None => return Ok(()),
-            Some((word, part)) => {
-                if !is_separator(word) {
-                    return Err(fault(more, Why::Word));
-                }
-                rest = part;
-            }
-        }
-    }
-    Err(fault(rest, Why::Long))
-}
-
 #[tactic(auto, unfolding(crate::specs::Records::bgp))]
 fn bgp(words: &[u8], body: &mut Vec<u8>) -> Result<Head, Stop>
     requires { body.old.items ≡ [] }
     ensures { GivesRecord result body.new.items (bgp (words_of words.now)) }
 {
     let (source, words) = u32_word(words)?;
-    parts(words, body)?;
+    parts(Protocol::Bgp, words, body)?;
     Ok(Head { kind: b'B', source })
 }
 
@@ -189,7 +183,7 @@ fn ospf(words: &[u8], body: &mut Vec<u8>) -> Result<Head, Stop>
     requires { body.old.items ≡ [] }
     ensures { GivesRecord result body.new.items (ospf (words_of words.now)) }
 {
-    parts(words, body)?;
+    parts(Protocol::Ospf, words, body)?;
     Ok(Head {
         kind: b'L',
         source: 0,
@@ -247,6 +241,8 @@ fn rare_record(words: &[u8], word: &[u8], rest: &[u8], body: &mut Vec<u8>) -> Re
 {
     if word == b"ospf-lost".as_slice() {
         ospf_lost(rest, body)
+    } else if word == b"summary".as_slice() {
+        summary(rest, body)
     } else if word == b"record".as_slice() {
         any_record(rest, body)
     } else {

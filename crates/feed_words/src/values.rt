@@ -4,19 +4,28 @@ ghost use Rattle.std.specs.Prelude.{◌≡◌, ◌^◌};
 ghost use Rattle.rcp_base.specs.Text.{number_of, address_of};
 ghost use Rattle.feed_words.specs.Words.{words_of, below};
 ghost use Rattle.feed_words.specs.Reading.{Gives};
-ghost use Rattle.feed_words.specs.Records.{u16_word, u32_word, u64_word, address_word};
+ghost use Rattle.feed_words.specs.Values.{u16_word, u32_word, u64_word, address_word};
 
 use crate::fault::{Stop, Why};
 use crate::words::{fault, next_word};
 use rcp_base::{read_addr, read_number};
 
-fn u16_in(text: &[u8]) -> Option<u16>
+/// A number below 2^8.
+pub fn u8_in(text: &[u8]) -> Option<u8>
+    ensures { result ≡ below (2 ^ 8) (number_of text.now) }
+{
+    u8::try_from(read_number(text)?).ok()
+}
+
+/// A number below 2^16.
+pub fn u16_in(text: &[u8]) -> Option<u16>
     ensures { result ≡ below (2 ^ 16) (number_of text.now) }
 {
     u16::try_from(read_number(text)?).ok()
 }
 
-fn u32_in(text: &[u8]) -> Option<u32>
+/// A number below 2^32.
+pub fn u32_in(text: &[u8]) -> Option<u32>
     ensures { result ≡ below (2 ^ 32) (number_of text.now) }
 {
     u32::try_from(read_number(text)?).ok()

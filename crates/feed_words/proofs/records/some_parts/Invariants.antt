@@ -1,8 +1,0 @@
--- The parts left, after the octets so far, give what all parts give.
-use Rattle.std.proofs.Common.{◌≡◌, ◌-◌, ◌^◌}
-use Rattle.feed_words.specs.Words.{words_of}
-use Rattle.feed_words.specs.Records.{octets_part, parts_within}
-use Rattle.feed_words.proofs.records.some_parts.Given as goal
-
-abbrev pub invariant-loop : goal.invariant-loop
-invariant-loop l = parts_within octets_part (2 ^ 20 - l.counter) l.body.items (words_of l.rest) ≡ parts_within octets_part (2 ^ 20) l.fn.body.items (words_of l.words)
