@@ -1,7 +1,7 @@
 -- What each step adds to what a session has done.
-use Rattle.std.proofs.Common.{◌≡◌, ◌≢◌, ℕ, ◌+◌, ◌-◌, ◌<◌, ◌≤◌, Bool, true, false, ◌⊎◌, inl, inr, List, [], ◌∷◌, ◌++◌, length, map, None, Some, refl, sym, ap, ◌∙◌, subst, append_assoc, append-nil, arith, length-append, nat_lt}
-use Rattle.std.specs.Prelude.{flat_map, ◌||◌, min}
-use Rattle.std.specs.List.{concat, AllByRecursion, list_any}
+use Rattle.std.proofs.Common.{◌≡◌, ℕ, ◌+◌, ◌-◌, ◌≤◌, Bool, true, false, ◌⊎◌, inl, inr, List, [], ◌∷◌, ◌++◌, length, map, refl, sym, ap, ◌∙◌, subst, append_assoc, append-nil, arith, length-append, nat_lt}
+use Rattle.std.specs.Prelude.{flat_map, ◌||◌}
+use Rattle.std.specs.List.{concat, AllByRecursion}
 use Rattle.std.specs.Prelude.{◌==◌, filter, slice_index_or}
 use Rattle.std.proofs.lemmas.Bool.{both_ways}
 use Rattle.std.proofs.lemmas.Bool.Decides.{nat_tests}
@@ -9,24 +9,23 @@ use Rattle.std.proofs.lemmas.List.{map-append}
 use Rattle.std.proofs.lemmas.List.Elements.{filter-append}
 use Rattle.std.proofs.lemmas.Grind.{flat_map-append}
 use Rattle.std.proofs.lemmas.List.Folds.{concat-append, list_any-append}
-use Rattle.rcp_base.specs.Roster.{RosterOf}
 use Rattle.rcp_model.specs.Routes.{OfferFields}
-use Rattle.rcp_model.specs.Sessions.{SessionState, SessionEvent, Doing, Answer, Input, nothing, then_also, answer, answers}
+use Rattle.rcp_model.specs.Sessions.{SessionEvent, Doing, Answer, Input, then_also, answer, answers}
 use Rattle.session_core.specs.Held.{Held}
 use Rattle.session_core.specs.Counts.{handled_at}
 use Rattle.session_times.specs.Times.{IsCourseOf}
 use Rattle.outside.specs.Told.{behind, behind-append, Rose}
-use Rattle.outbox.specs.Wires.{WireOf, HasRisen, HasNotFallen, Wrote}
-use Rattle.outbox.specs.Outs.{OutOf, Writes, WritesSome, front, updates_in, counted_on, HasMore}
+use Rattle.outbox.specs.Wires.{WireOf, HasRisen, HasNotFallen}
+use Rattle.outbox.specs.Outs.{OutOf, Writes, front, updates_in, counted_on, HasMore}
 use Rattle.outbox.proofs.Writing.{updates-append, risen-then, rose-then, then-rose, not_fallen}
 use Rattle.seats.specs.Mails.{Mail}
 use Rattle.seats.specs.Ends.{SenderOf}
 use Rattle.seats.specs.Seats.{SeatOf, no_sender, sent_at}
-use Rattle.shard_mail.specs.Puts.{IsSameSeat, Puts, mail_of, mails_of, is_up_event, reached_up}
+use Rattle.shard_mail.specs.Puts.{Puts, mail_of, mails_of, is_up_event, reached_up}
 use Rattle.shard_mail.proofs.Putting.{same-then, mail_of-same}
 use Rattle.shard_mail.specs.Batches.{Takes, own_offers, updates_of}
 use Rattle.session_serve.specs.Deeds.{Deeds, Piece, Said, Offered, messages_of, said_in, batches_in, octets_in, handled_by, pieces_in, WantedNothing}
-use Rattle.session_serve.specs.Running.{Start, At, Done, Runs, Waits, HasOffers, does_by}
+use Rattle.session_serve.specs.Running.{Start, At, Done, Runs, does_by}
 use Rattle.session_serve.proofs.PieceLemmas.{octets-append, said-append, batches-append, said-said, said-batches, said-messages, answers-more, handled-more}
 
 -- ---- writes

@@ -1,6 +1,6 @@
 -- After each step the session goes on, or it ended.
-use Rattle.std.proofs.Common.{◌≡◌, ◌≢◌, ℕ, ◌+◌, ◌-◌, ◌<◌, ◌≤◌, Bool, true, false, ◌⊎◌, inl, inr, List, [], ◌∷◌, ◌++◌, length, map, Option, None, Some, refl, sym, ap, ◌∙◌, subst, append_assoc, append-nil, arith, length-append, nat_lt}
-use Rattle.std.specs.Prelude.{flat_map, filter, ◌||◌, ◌==◌, IsTrue, Result, Ok, Err}
+use Rattle.std.proofs.Common.{◌≡◌, ℕ, ◌-◌, ◌≤◌, Bool, true, false, ◌⊎◌, inl, inr, List, [], ◌∷◌, ◌++◌, length, map, Option, None, Some, refl, sym, ap, ◌∙◌, subst, append_assoc, append-nil, arith, length-append, nat_lt}
+use Rattle.std.specs.Prelude.{filter, ◌||◌, ◌==◌, IsTrue, Result, Ok, Err}
 use Rattle.std.proofs.lemmas.Bool.{both_ways, cases_Bool}
 use Rattle.std.proofs.lemmas.List.{length-map}
 use Rattle.std.proofs.lemmas.Bool.Decides.{nat_tests}
@@ -13,8 +13,8 @@ use Rattle.session_core.specs.Held.{Held}
 use Rattle.session_core.specs.Counts.{handled_at}
 use Rattle.session_times.specs.Times.{IsCourseOf}
 use Rattle.outside.specs.Told.{behind, behind-nil, Rose}
-use Rattle.outbox.specs.Wires.{WireOf, HasRisen, HasNotFallen}
-use Rattle.outbox.specs.Outs.{OutOf, Writes, front, counted_on, empty}
+use Rattle.outbox.specs.Wires.{WireOf, HasRisen}
+use Rattle.outbox.specs.Outs.{OutOf, front, counted_on, empty}
 use Rattle.outbox.proofs.Writing.{risen-same, then-rose}
 use Rattle.seats.specs.Seats.{SeatOf, sent_at}
 use Rattle.shard_mail.specs.Puts.{Puts, mails_of, reached_up}
@@ -22,11 +22,11 @@ use Rattle.shard_mail.specs.Batches.{Takes, TookAll, own_offers, updates_of}
 use Rattle.shard_mail.proofs.Putting.{same-seat}
 use Rattle.session_serve.specs.declared.ends.EndWhy.{EndWhy}
 use Rattle.session_serve.specs.declared.ends.EndWhy.TheVariants as why
-use Rattle.session_serve.specs.Deeds.{Deeds, Piece, Said, Offered, no_deeds, handled_by, messages_of, batches_in, octets_in, pieces_in, WantedNothing}
+use Rattle.session_serve.specs.Deeds.{Deeds, Piece, Said, Offered, no_deeds, handled_by, batches_in, octets_in, pieces_in, WantedNothing}
 use Rattle.session_serve.specs.Ended.{HadMemory, IsCauseOf, HasTaken, TookOffers, Closes}
-use Rattle.session_serve.specs.Running.{Start, start_at, At, HasOffers, Done, Runs, Waits, HasBegun, Ends, Goes, Acts, does_by}
+use Rattle.session_serve.specs.Running.{Start, start_at, At, HasOffers, Done, Runs, HasBegun, Ends, Goes, Acts, does_by}
 use Rattle.session_serve.proofs.PieceLemmas.{batches-append, said-batches, answers-more}
-use Rattle.session_serve.proofs.DoneLemmas.{gone_on, written_at, answered_by, done-writes, done-answered, done-pushed, done-read, took_by, done-took, packed_by, packed-pieces, done-packed}
+use Rattle.session_serve.proofs.DoneLemmas.{gone_on, answered_by, done-writes, done-answered, done-pushed, done-read, took_by, done-took, packed_by, packed-pieces, done-packed}
 
 -- a count that only falls was above 0 before
 pub was_some : (old new n : ℕ) → new ≡ old - n → nat_lt 0 new ≡ true → nat_lt 0 old ≡ true

@@ -1,10 +1,10 @@
 -- Lists of what came and of what was to be written.
-use Rattle.std.proofs.Common.{◌≡◌, ℕ, ◌+◌, Bool, true, List, [], ◌∷◌, ◌++◌, length, map, refl, sym, ap, ◌∙◌, append_assoc, append-nil, arith}
+use Rattle.std.proofs.Common.{◌≡◌, ℕ, ◌+◌, Bool, true, List, [], ◌∷◌, ◌++◌, map, refl, sym, ap, ◌∙◌, append_assoc, arith}
 use Rattle.std.specs.Prelude.{flat_map}
 use Rattle.std.specs.List.{AllByRecursion}
 use Rattle.rcp_base.specs.Roster.{RosterOf}
 use Rattle.rcp_model.specs.Routes.{OfferFields}
-use Rattle.rcp_model.specs.Sessions.{SessionState, Doing, Answer, Input, Octets, Seat, Moment, End, nothing, then_also, answer, answers}
+use Rattle.rcp_model.specs.Sessions.{SessionState, Doing, Answer, Input, Octets, Seat, Moment, End, then_also, answer, answers}
 use Rattle.rcp_model.proofs.SessionLemmas.{nothing-then, then-nothing, then-assoc}
 use Rattle.session_core.specs.Counts.{handled_at}
 use Rattle.session_times.specs.Times.{IsTimely, IsCourseOf}

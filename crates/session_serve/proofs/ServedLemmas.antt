@@ -1,27 +1,25 @@
 -- A session that ended is served: the router is reported down, and what waits is written as far as the link takes it.
-use Rattle.std.proofs.Common.{◌≡◌, ◌≢◌, ℕ, ◌+◌, ◌-◌, ◌^◌, ◌<◌, ◌≤◌, Bool, true, false, cond, ◌⊎◌, inl, inr, List, [], ◌∷◌, ◌++◌, length, Option, None, Some, refl, sym, ap, ◌∙◌, subst, append_assoc, append-nil, arith, length-append}
-use Rattle.std.specs.Prelude.{flat_map, min}
+use Rattle.std.proofs.Common.{◌≡◌, ◌≢◌, ℕ, ◌^◌, ◌<◌, Bool, true, ◌⊎◌, inl, inr, List, [], ◌∷◌, ◌++◌, length, Option, Some, sym, ap, ◌∙◌, subst, arith, length-append}
+use Rattle.std.specs.Prelude.{flat_map}
 use Rattle.rcp_base.specs.Roster.{RosterOf}
-use Rattle.rcp_model.specs.declared.rcs_mail.ShardMail.TheVariants as mail
-use Rattle.rcp_model.specs.Routes.{OfferFields}
-use Rattle.rcp_model.specs.Sessions.{SessionState, SessionEvent, Ending, ending, Faulted, Received, Negotiated, Claiming, answers, keepalive}
-use Rattle.session_times.specs.Times.{IsCourseOf, FarApart, EndsDue, claimed_hold}
+use Rattle.rcp_model.specs.Sessions.{SessionState, Ending, Negotiated, Claiming, keepalive}
+use Rattle.session_times.specs.Times.{EndsDue, claimed_hold}
 use Rattle.outside.specs.Told.{Rose}
 use Rattle.outbox.specs.Wires.{WireOf, HasRisen}
-use Rattle.outbox.specs.Outs.{OutOf, Writes, WritesSome, IsDone, updates_in, counted_on, HasMore}
+use Rattle.outbox.specs.Outs.{OutOf, WritesSome, IsDone}
 use Rattle.outbox.proofs.Writing.{then-rose, rose-then}
 use Rattle.seats.specs.Mails.{Mail}
 use Rattle.seats.specs.Seats.{SeatOf, sent_at}
-use Rattle.shard_mail.specs.Puts.{IsSameSeat, Puts, mails_of, reached_up}
+use Rattle.shard_mail.specs.Puts.{Puts, mails_of, reached_up}
 use Rattle.shard_mail.proofs.Putting.{same-then}
 use Rattle.session_serve.specs.declared.ends.EndWhy.{EndWhy}
 use Rattle.session_serve.specs.declared.ends.EndWhy.TheVariants as why
 use Rattle.session_serve.specs.declared.ends.SessionEnd.{SessionEnd}
-use Rattle.session_serve.specs.Deeds.{Deeds, Piece, Said, messages_of, pieces_in, WantedNothing, handled_by, down_if, down_after}
+use Rattle.session_serve.specs.Deeds.{Deeds, Piece, messages_of, pieces_in, WantedNothing, down_if}
 use Rattle.session_serve.specs.Ended.{HadMemory, IsCauseOf, IsWritten, WasSlow, TookOffers, IsExpired}
-use Rattle.session_serve.specs.Running.{Start, start_at, At, Done, HasBegun, Ends, does_by}
+use Rattle.session_serve.specs.Running.{Start, start_at, At, HasBegun, Ends, does_by}
 use Rattle.session_serve.specs.Served.{IsServed}
-use Rattle.session_serve.proofs.DoneLemmas.{gone_on, written_at, done-writes}
+use Rattle.session_serve.proofs.DoneLemmas.{gone_on, done-writes}
 
 -- ---- what is written at the end
 
@@ -58,7 +56,7 @@ written-by start deeds out wire why.NoMemory begun wanted queue done = tt
 -- ---- causes
 
 -- what rose by then has risen since
-cause-later : (closed : Option Ending) (may_stop : Bool) (before middle after : WireOf) (end : EndWhy) → after.ends ≡ middle.ends → HasRisen middle after → IsCauseOf closed may_stop before middle end → IsCauseOf closed may_stop before after end
+pub cause-later : (closed : Option Ending) (may_stop : Bool) (before middle after : WireOf) (end : EndWhy) → after.ends ≡ middle.ends → HasRisen middle after → IsCauseOf closed may_stop before middle end → IsCauseOf closed may_stop before after end
 cause-later closed may_stop before middle after (why.Fault code sub) ends risen cause = cause
 cause-later closed may_stop before middle after (why.Received code sub) ends risen cause = cause
 cause-later closed may_stop before middle after why.PeerClosed ends risen cause = (cause.0, subst (λ n. Rose before.ends n) (sym ends) cause.1)
@@ -68,7 +66,7 @@ cause-later closed may_stop before middle after (why.SeatOut out) ends risen cau
 cause-later closed may_stop before middle after why.NoMemory ends risen cause = tt
 
 -- a fault of a timer has its two times
-expired-by : (can_give : ℕ → Bool) (seconds : ℕ) (closed : Option Ending) (may_stop : Bool) (before after : WireOf) (end : EndWhy) → EndsDue can_give seconds closed → IsCauseOf closed may_stop before after end → IsExpired can_give seconds end
+pub expired-by : (can_give : ℕ → Bool) (seconds : ℕ) (closed : Option Ending) (may_stop : Bool) (before after : WireOf) (end : EndWhy) → EndsDue can_give seconds closed → IsCauseOf closed may_stop before after end → IsExpired can_give seconds end
 expired-by can_give seconds closed may_stop before after (why.Fault code sub) due cause = subst (EndsDue can_give seconds) cause due
 expired-by can_give seconds closed may_stop before after (why.Received code sub) due cause = tt
 expired-by can_give seconds closed may_stop before after why.PeerClosed due cause = tt

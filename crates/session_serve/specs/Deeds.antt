@@ -1,6 +1,5 @@
 -- What a session that holds its seat does in one call: what came to it, what it put to the shards, and what was to be written.
-use Rattle.std.specs.Prelude.{◌≡◌, ℕ, ◌+◌, Bool, true, false, ◌==◌, List, [], ◌∷◌, ◌++◌, if◌then◌else◌}
-use Rattle.std.specs.List.{list_any}
+use Rattle.std.specs.Prelude.{◌≡◌, ℕ, ◌+◌, Bool, List, [], ◌∷◌, ◌++◌, if◌then◌else◌}
 use Rattle.rcp_base.specs.Roster.{RosterOf}
 use Rattle.rcp_model.specs.declared.rcs_mail.ShardMail.TheVariants as mail
 use Rattle.rcp_model.specs.Routes.{OfferFields}

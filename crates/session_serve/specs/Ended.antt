@@ -1,5 +1,5 @@
 -- How a session ends, and that each end has its cause.
-use Rattle.std.specs.Prelude.{◌≡◌, ◌≢◌, ℕ, ◌≤◌, Bool, true, false, ◌⊎◌, List, [], ◌∷◌, length, Option, Some, None, IsTrue, Result, Ok, Err}
+use Rattle.std.specs.Prelude.{◌≡◌, ◌≢◌, ℕ, ◌≤◌, Bool, true, false, ◌⊎◌, List, [], length, Option, Some, None, IsTrue, Result, Ok, Err}
 use Rattle.rcp_model.specs.Routes.{OfferFields}
 use Rattle.rcp_model.specs.Sessions.{Ending, ending, Faulted, Received}
 use Rattle.outside.specs.Told.{Rose}

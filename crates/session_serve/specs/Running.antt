@@ -2,10 +2,9 @@
 use Rattle.std.specs.Prelude.{◌≡◌, ℕ, ◌+◌, ◌<◌, ◌≤◌, Bool, true, false, List, [], ◌∷◌, ◌++◌, length, flat_map, nat_lt, None, Result, Ok, Err}
 use Rattle.std.specs.List.{concat, AllByRecursion}
 use Rattle.rcp_base.specs.Roster.{RosterOf}
-use Rattle.rcp_model.specs.Routes.{OfferFields}
-use Rattle.rcp_model.specs.Sessions.{SessionState, Input, Seat, Doing, Claiming, Negotiated, answers, keepalive}
+use Rattle.rcp_model.specs.Sessions.{SessionState, Input, Seat, Doing, answers, keepalive}
 use Rattle.session_core.specs.Held.{Held}
-use Rattle.session_times.specs.Times.{IsCourseOf, claimed_hold}
+use Rattle.session_times.specs.Times.{IsCourseOf}
 use Rattle.outside.specs.Told.{behind, Rose}
 use Rattle.outbox.specs.Wires.{WireOf, HasRisen, HasNotFallen}
 use Rattle.outbox.specs.Outs.{OutOf, WritesSome, front, updates_in, counted_on, HasMore}

@@ -1,5 +1,5 @@
 -- What serving a router comes to.
-use Rattle.std.specs.Prelude.{◌≡◌, ℕ, ◌<◌, ◌≤◌, Bool, false, List, [], ◌++◌, length, flat_map, Some}
+use Rattle.std.specs.Prelude.{◌≡◌, ℕ, ◌<◌, ◌≤◌, Bool, false, [], ◌++◌, length, flat_map, Some}
 use Rattle.std.specs.List.{concat, AllByRecursion}
 use Rattle.rcp_base.specs.Roster.{RosterOf}
 use Rattle.rcp_model.specs.Sessions.{SessionState, Negotiated, Claiming}

@@ -1,0 +1,5 @@
+pub mod GreetLemmas
+pub mod GreetEnds
+pub mod RefuseLemmas
+pub mod RestLemmas
+pub mod CloseLemmas
