@@ -27,6 +27,18 @@ IsReadOf octets (Err status.Write) = ⊥
 IsReadOf octets (Err (status.NoPath refusal)) = ⊥
 IsReadOf octets (Err status.NetFault) = ⊥
 
+-- a faulty roster, which is the first, a failed read, or want of memory
+abbrev pub IsRefusal : Status → Type 0
+IsRefusal (status.Roster number line fault) = number ≡ 1
+IsRefusal status.Read = Unit {0}
+IsRefusal status.NoMemory = Unit {0}
+IsRefusal status.Done = ⊥
+IsRefusal status.Usage = ⊥
+IsRefusal (status.Feed number why) = ⊥
+IsRefusal status.Write = ⊥
+IsRefusal (status.NoPath refusal) = ⊥
+IsRefusal status.NetFault = ⊥
+
 -- so many octets were taken from the source and stand after those of the text
 pub record AddsPiece (count : ℕ) (before now : List ℕ) (left left_now : Option (List ℕ)) : Type 0 where
   pub piece : List ℕ

@@ -3,7 +3,7 @@
 ghost use Rattle.std.specs.Prelude.{◌≡◌, ◌≤◌, ℕ, List, [], Some, Err, IfOk, OnOk, IfErr, IfSome, length};
 ghost use Rattle.outside.specs.Told.{Rose, NeverFalls, in_front};
 ghost use Rattle.feed_format.specs.declared.status.Status.TheVariants as status;
-ghost use Rattle.roster_source.specs.Reading.{MOST, IsReadOf, AddsPiece, IsNoText};
+ghost use Rattle.roster_source.specs.Reading.{MOST, IsReadOf, IsRefusal, AddsPiece, IsNoText};
 
 use feed_format::Status;
 use outside::Source;
@@ -24,6 +24,7 @@ const PIECE: usize = 4096;
 pub fn read_roster<S: Source>(alloc: Global, source: &mut S) -> Result<Roster, Status>
     ensures exact { IfSome (S.left source.old) (λ octets. IsReadOf octets result) }
     ensures end { OnOk result (IfSome (S.left source.new) (λ octets. octets ≡ [])) }
+    ensures refused { IfErr result IsRefusal }
     ensures cause { result ≡ Err status.Read → Rose (S.faults source.old) (S.faults source.new) }
     ensures never_falls { NeverFalls (S.faults source.old) (S.faults source.new) }
 {

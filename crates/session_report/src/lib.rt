@@ -14,7 +14,7 @@
 
 mod report;
 
-pub use report::report_text;
+pub use report::{place_in, report_text};
 
 #[cfg(test)]
 mod tests;

@@ -44,8 +44,8 @@ fn put_lines(
     Ok(())
 }
 
-/// The place of an end in the report: that of its router, or after all of them.
-fn place_in(routers: u16, slot: Option<Slot>) -> u16
+/// The place in the report of an end with this slot, where the roster has so many routers: that of its router, or after all of them.
+pub fn place_in(routers: u16, slot: Option<Slot>) -> u16
     ensures { result ≡ place_of routers slot }
 {
     match slot {

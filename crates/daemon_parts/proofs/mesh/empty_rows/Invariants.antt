@@ -1,0 +1,6 @@
+-- As many rows as were counted, each without a value.
+use Rattle.std.proofs.Common.{◌≡◌, [], map, replicate}
+use Rattle.daemon_parts.proofs.mesh.empty_rows.Given as goal
+
+abbrev pub invariant-loop : goal.invariant-loop
+invariant-loop g l = map (λ row. row.items) l.rows.items ≡ replicate l.counter []

@@ -1,0 +1,4 @@
+pub mod EndsLemmas
+pub mod NamesLemmas
+pub mod RunLemmas
+pub mod ServeLemmas

@@ -1,0 +1,3 @@
+pub mod Daemons
+pub mod Ends
+pub mod Names
