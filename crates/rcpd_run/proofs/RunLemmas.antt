@@ -9,7 +9,18 @@ use Rattle.rcpd_words.specs.Words.{StandFor}
 use Rattle.rcpd_words.specs.declared.settings.Settings.{Settings}
 use Rattle.rcpd_words.proofs.WordLemmas.{same_settings}
 use Rattle.daemon_jobs.specs.declared.session.Served.{Served}
-use Rattle.rcpd_run.specs.Daemons.{ReachesReport, HaveServed, report_on, WroteReport}
+use Rattle.rcpd_run.specs.Daemons.{IsOfDaemon, ReachesReport, HaveServed, report_on, WroteReport}
+
+pub of_refusal : (result : Status) → IsRefusal result → IsOfDaemon result
+of_refusal (status.Roster number line fault) refusal = tt
+of_refusal status.Read refusal = tt
+of_refusal status.NoMemory refusal = tt
+of_refusal status.Done refusal = absurd refusal
+of_refusal status.Usage refusal = absurd refusal
+of_refusal (status.Feed number why) refusal = absurd refusal
+of_refusal status.Write refusal = absurd refusal
+of_refusal (status.NoPath why) refusal = absurd refusal
+of_refusal status.NetFault refusal = absurd refusal
 
 pub not_usage : (result : Status) → IsRefusal result → result ≡ status.Usage → ⊥
 not_usage result refusal e = subst IsRefusal e refusal

@@ -84,6 +84,18 @@ WroteReport status report before after = after ≡ behind before report
 abbrev pub ReachesReport : Status → Type 0
 ReachesReport result = (result ≡ status.Done) ⊎ (result ≡ status.Write)
 
+-- the statuses of a daemon: Feed and NoPath are those of other programs
+abbrev pub IsOfDaemon : Status → Type 0
+IsOfDaemon status.Done = Unit {0}
+IsOfDaemon status.Usage = Unit {0}
+IsOfDaemon (status.Feed number why) = ⊥
+IsOfDaemon (status.Roster number line fault) = Unit {0}
+IsOfDaemon status.Read = Unit {0}
+IsOfDaemon status.Write = Unit {0}
+IsOfDaemon status.NoMemory = Unit {0}
+IsOfDaemon (status.NoPath refusal) = ⊥
+IsOfDaemon status.NetFault = Unit {0}
+
 -- a fault of the source, the sink or the net is answered only where there was one
 pub record HasCause (result : Status) (source_before source_after sink_before sink_after net_before net_after : ℕ) : Type 0 where
   pub read : result ≡ status.Read → Rose source_before source_after

@@ -7,7 +7,7 @@ ghost use Rattle.link_acceptor.specs.Accepting.{RoseBy};
 ghost use Rattle.roster_source.specs.Reading.{roster_in};
 ghost use Rattle.rcpd_words.specs.Words.{StandFor, StandForNone};
 ghost use Rattle.rcpd_words.specs.declared.settings.Settings.{Settings};
-ghost use Rattle.rcpd_run.specs.Daemons.{IsStatusFor, HaveServed, report_on, WroteReport, ReachesReport, HasCause};
+ghost use Rattle.rcpd_run.specs.Daemons.{IsOfDaemon, IsStatusFor, HaveServed, report_on, WroteReport, ReachesReport, HasCause};
 ghost use Rattle.daemon_jobs.specs.declared.session.Served.{Served};
 
 use crate::serving::serve;
@@ -55,7 +55,8 @@ where
     ensures usage { (result ≡ Status.Usage) ↔ StandForNone (map (λ word. word.now) words.now) }
     ensures nothing_read { result ≡ Status.Usage → S.left source.new ≡ S.left source.old }
 
-    // A fault of the source, of the sink or of the net is answered only where there was one.
+    // Feed and NoPath never come. A fault of the source, of the sink or of the net is answered only where there was one.
+    ensures never { IsOfDaemon result }
     ensures cause { HasCause result (S.faults source.old) (S.faults source.new) (K.faults sink.old) (K.faults sink.new) (N.faults net.old) (N.faults net.new) }
 
     // Roster comes exactly at the first fault of the source's octets. Where the daemon served, they are those of a roster, and were read to their end.

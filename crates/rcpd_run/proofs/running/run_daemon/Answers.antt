@@ -1,7 +1,7 @@
 use Rattle.std.proofs.Common.{ℕ, Err, ap, subst}
 use Rattle.link_acceptor.specs.Accepting.{RoseBy}
 use Rattle.feed_format.specs.declared.status.Status.TheVariants as status
-use Rattle.rcpd_run.proofs.RunLemmas.{not_usage, not_write, not_net, not_reached, sessions_are, reported}
+use Rattle.rcpd_run.proofs.RunLemmas.{of_refusal, not_usage, not_write, not_net, not_reached, sessions_are, reported}
 use Rattle.rcpd_run.proofs.running.run_daemon.Goals as goal
 
 pub returns-in_default-clause-complete : goal.returns-in_default-clause-complete
@@ -10,6 +10,9 @@ returns-in_default-clause-complete g c settings stands octets roster left is sou
 pub returns-in-Err-clause-usage : goal.returns-in-Err-clause-usage
 returns-in-Err-clause-usage g c =
     ((λ e. absurd (not_usage c.in-Err.status c.in-Err.ensures.refused e)), (λ none. absurd (none c.in-Some.settings c.in-Some.ensures)))
+
+pub returns-in-Err-clause-never : goal.returns-in-Err-clause-never
+returns-in-Err-clause-never g c = of_refusal c.in-Err.status c.in-Err.ensures.refused
 
 pub returns-in-Err-clause-nothing_read : goal.returns-in-Err-clause-nothing_read
 returns-in-Err-clause-nothing_read g c e = absurd (not_usage c.in-Err.status c.in-Err.ensures.refused e)
