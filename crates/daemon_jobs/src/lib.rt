@@ -25,4 +25,4 @@ pub use session::{Served, SessionJob};
 pub use shared::Shared;
 pub use viewer::ViewerJob;
 pub use wiring::run_all;
-pub use worker::WorkerJob;
+pub use worker::{TURNED, WorkerJob};

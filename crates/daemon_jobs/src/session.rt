@@ -12,11 +12,9 @@ use seats::SeatNames;
 use session_run::serve_session;
 use session_serve::{EndWhy, SessionEnd};
 use std::sync::Wait;
-use std::thread::Parker;
-use std::time::Duration;
 
-/// How long a job without a link rests before it looks again, in milliseconds.
-const REST: u64 = 50;
+/// How long a job without a link rests, in milliseconds: how late it sees the mark. A link ends the rest.
+const REST: u32 = 1_000;
 
 /// A link that was served, and the end of the session on it.
 #[derive(Drop)]
@@ -99,7 +97,6 @@ fn wait_for_link<B: SeatNames, L: Link, C, G, R: Wait>(
     shared: &Shared<'_, B, L, C, G>,
     place: usize,
 ) -> Option<FreshLink<L>> {
-    let parker = Parker::new();
     let links = shared.links.get(place)?;
     for _ in rt.forever() {
         if let Some(link) = links.pop(rt) {
@@ -108,7 +105,7 @@ fn wait_for_link<B: SeatNames, L: Link, C, G, R: Wait>(
         if shared.stop.is_set() {
             return None;
         }
-        parker.park_timeout(rt, Duration::from_millis(REST));
+        links.rest(rt, REST);
     }
     unreachable!()
 }

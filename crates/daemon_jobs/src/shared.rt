@@ -2,8 +2,7 @@
 
 ghost use Rattle.std.specs.Prelude.{◌≡◌, ◌<◌, ◌≤◌, ℕ, length, IsTrue, IfOk};
 
-use crossbeam_queue::ArrayQueue;
-use link_acceptor::FreshLink;
+use link_acceptor::{FreshLink, LinkQueue};
 use outside::{Link, StopMark};
 use rcp_base::NoMemory;
 use roster::Roster;
@@ -23,9 +22,9 @@ pub struct Shared<'a, B: SeatNames, L: Link, C, G> {
     pub(crate) gate: &'a G,
     pub(crate) book: SeatBook<B>,
     /// For each session the link that it is to serve.
-    pub(crate) links: Vec<ArrayQueue<FreshLink<L>>>,
+    pub(crate) links: Vec<LinkQueue<FreshLink<L>>>,
     /// The streams of link state that are to be served.
-    pub(crate) streams: ArrayQueue<L>,
+    pub(crate) streams: LinkQueue<L>,
     /// Set once no session is served any longer.
     pub(crate) stop: StopMark,
     /// Set once neither a session nor the viewer puts any message to a shard.
@@ -56,7 +55,7 @@ impl<'a, B: SeatNames, L: Link, C, G> Shared<'a, B, L, C, G> {
     {
         let mut links = Vec::new(alloc);
         for _ in 0..sessions {
-            links.push(ArrayQueue::new(alloc, 1)?)?;
+            links.push(LinkQueue::new(alloc, 1)?)?;
         }
         Ok(Shared {
             alloc,
@@ -65,7 +64,7 @@ impl<'a, B: SeatNames, L: Link, C, G> Shared<'a, B, L, C, G> {
             gate,
             book,
             links,
-            streams: ArrayQueue::new(alloc, STREAMS)?,
+            streams: LinkQueue::new(alloc, STREAMS)?,
             stop: StopMark::new(true),
             quiet: StopMark::new(true),
             sessions_left: AtomicU64::new(u64::from(sessions)),

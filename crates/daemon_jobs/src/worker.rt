@@ -6,14 +6,16 @@ use outside::{Gate, Link, StopMark};
 use seats::{Mail, SeatNames};
 use shard_worker::{Turned, Worker};
 use std::sync::Wait;
-use std::thread::Parker;
-use std::time::Duration;
 
 /// The most messages, and the most prefixes, of a turn.
 const BUDGET: u32 = 256;
 
-/// How long a worker that finds nothing to do rests, in milliseconds.
-const REST: u64 = 1;
+/// How long a worker that finds nothing to do rests, in milliseconds: how late it sees the mark. A message ends the rest.
+const REST: u32 = 1_000;
+
+/// The point of the gate that a worker passes after a turn that did something, when there may be offers to read. The points of the turns' starts, which are the shards'
+/// numbers, are below.
+pub const TURNED: u32 = 1 << 16;
 
 /// Works a shard.
 #[derive(Drop)]
@@ -54,7 +56,6 @@ impl WorkerJob {
 
 /// Takes turns until the mark is set and no message is left. False where a turn found no memory.
 fn take_turns<G: Gate, R: Wait>(rt: &R, worker: &mut Worker, gate: &G, quiet: &StopMark) -> bool {
-    let parker = Parker::new();
     for _ in rt.forever() {
         let last = quiet.is_set();
         let Ok(turned) = worker.turn(rt, BUDGET, gate) else {
@@ -64,7 +65,9 @@ fn take_turns<G: Gate, R: Wait>(rt: &R, worker: &mut Worker, gate: &G, quiet: &S
             return true;
         }
         if was_idle(&turned) {
-            parker.park_timeout(rt, Duration::from_millis(REST));
+            worker.rest(rt, REST);
+        } else {
+            gate.pass(TURNED);
         }
     }
     unreachable!()

@@ -5,7 +5,7 @@ ghost use Rattle.outside.specs.Told.{Rose, NeverFalls};
 ghost use Rattle.link_acceptor.specs.Accepting.{RoseBy, RoseOnce};
 
 use crate::fresh_link::FreshLink;
-use crossbeam_queue::ArrayQueue;
+use crate::link_queue::LinkQueue;
 use outside::{Accepted, Failed, Net, StopMark};
 use std::sync::Wait;
 use std::thread;
@@ -24,8 +24,8 @@ pub struct Accepting {
 pub fn accept<N: Net, R: Wait>(
     rt: &R,
     net: &mut N,
-    links: &[ArrayQueue<FreshLink<N::L>>],
-    streams: &ArrayQueue<N::L>,
+    links: &[LinkQueue<FreshLink<N::L>>],
+    streams: &LinkQueue<N::L>,
     stop: &StopMark,
 ) -> Accepting
     requires may_be_set { IsTrue stop.now }
@@ -74,7 +74,7 @@ fn stopped(stop: &StopMark, handed_on: usize) -> Accepting
 fn accept_link<N: Net, R: Wait>(
     rt: &R,
     net: &mut N,
-    links: &[ArrayQueue<FreshLink<N::L>>],
+    links: &[LinkQueue<FreshLink<N::L>>],
     place: usize,
 ) -> Result<usize, Failed>
     requires { place ≤ length links.now }
@@ -101,7 +101,7 @@ fn accept_link<N: Net, R: Wait>(
 fn accept_stream<N: Net, R: Wait>(
     rt: &R,
     net: &mut N,
-    streams: &ArrayQueue<N::L>,
+    streams: &LinkQueue<N::L>,
     held: Option<N::L>,
 ) -> Result<Option<N::L>, Failed>
     ensures handed_out { N.handed_out net.new ≡ N.handed_out net.old }

@@ -1,7 +1,6 @@
 //! Nets in memory.
 
-use crate::{Accepting, FreshLink, accept};
-use crossbeam_queue::ArrayQueue;
+use crate::{Accepting, FreshLink, LinkQueue, accept};
 use outside::{MemLink, MemNet, StopMark};
 use std::test::Fail;
 
@@ -15,9 +14,9 @@ fn a_net_that_fails_at_once_hands_on_nothing_and_sets_the_mark(
         Vec::new(alloc),
         vec![in alloc; 1]?,
     );
-    let queue: ArrayQueue<FreshLink<MemLink>> = ArrayQueue::new(alloc, 1)?;
+    let queue: LinkQueue<FreshLink<MemLink>> = LinkQueue::new(alloc, 1)?;
     let links = vec![in alloc; queue]?;
-    let streams = ArrayQueue::new(alloc, 16)?;
+    let streams = LinkQueue::new(alloc, 16)?;
     let stop = StopMark::new(true);
     let ended = accept(&rt, &mut net, &links, &streams, &stop);
     let wanted = Accepting {
@@ -25,5 +24,18 @@ fn a_net_that_fails_at_once_hands_on_nothing_and_sets_the_mark(
         failed: true,
     };
     assert_eq!(rt; (ended, stop.is_set()), (wanted, true));
+    Ok(())
+}
+
+#[test]
+fn a_queue_hands_links_on_in_their_order_and_one_that_is_full_hands_it_back(
+    rt: HostRuntime,
+) -> Result<(), Fail> {
+    let queue = LinkQueue::new(rt.alloc(), 2)?;
+    assert_eq!(rt; queue.push(&rt, 'a'), Ok(()));
+    assert_eq!(rt; queue.push(&rt, 'b'), Ok(()));
+    assert_eq!(rt; queue.push(&rt, 'c'), Err('c'));
+    queue.rest(&rt, 1);
+    assert_eq!(rt; [queue.pop(&rt), queue.pop(&rt), queue.pop(&rt)], [Some('a'), Some('b'), None]);
     Ok(())
 }

@@ -52,21 +52,25 @@ impl Bell {
     }
 }
 
-/// A gate that rings the bell each time that it is passed, and holds nobody. A shard's worker passes it at each turn, so that a session
-/// sees the offers of a turn at the start of the next one.
+/// A gate that rings the bell when it is passed at one of its last points, and holds nobody.
 #[derive(Drop)]
 pub struct BellGate {
     bell: Arc<Bell, Global>,
+    first: u32,
 }
 
 impl BellGate {
-    pub fn new(bell: Arc<Bell, Global>) -> BellGate {
-        BellGate { bell }
+    /// A gate that rings at the points from `first` on. With those that a shard's worker passes after a turn that did something, a session reads the offers of the
+    /// turn at once, and a worker without work wakes nobody.
+    pub fn new(bell: Arc<Bell, Global>, first: u32) -> BellGate {
+        BellGate { bell, first }
     }
 }
 
 impl Gate for BellGate {
-    fn pass(&self, _point: u32) {
-        self.bell.ring();
+    fn pass(&self, point: u32) {
+        if point >= self.first {
+            self.bell.ring();
+        }
     }
 }

@@ -102,27 +102,29 @@ fn a_closed_link_has_ended_and_takes_nothing(rt: HostRuntime) -> Result<(), Fail
     Ok(())
 }
 
-/// Whether a wait of ten seconds ended in the first five.
-fn is_woken<L: Link, C: Clock>(clock: &C, link: &mut L) -> bool {
+/// Whether a wait of so many seconds ended in its first half.
+fn is_woken<L: Link, C: Clock>(clock: &C, link: &mut L, seconds: u32) -> bool {
     let start = clock.now();
-    link.wait(10_000);
-    clock.now() < start.saturating_add(5)
+    link.wait(seconds.saturating_mul(1_000));
+    clock.now() < start.saturating_add(u64::from(seconds / 2))
 }
 
 #[test]
-fn a_gate_that_is_passed_ends_the_waiting_of_a_link(rt: HostRuntime) -> Result<(), Fail> {
+fn a_gate_that_is_passed_at_its_first_point_ends_the_waiting_of_a_link(rt: HostRuntime) -> Result<(), Fail> {
     let bell = Bell::new(&rt)?;
     let bell = Arc::new(rt.alloc(), bell)?;
-    let gate = BellGate::new(bell.clone()?);
+    let gate = BellGate::new(bell.clone()?, 7);
     let mut net = MioNet::new(&rt, rt.alloc(), any_port(), any_port(), bell)?;
     let peer = TcpStream::connect(&rt, net.bgp_addr()?)?;
     let mut link = accepted(&mut net).ok_or("no link")?;
     // The first wait finds that there is room to write.
     link.wait(1_000);
     for _ in 0..2 {
-        gate.pass(0);
-        assert!(rt; is_woken(&SystemClock::new(&rt), &mut link));
+        gate.pass(7);
+        assert!(rt; is_woken(&SystemClock::new(&rt), &mut link, 10));
     }
+    gate.pass(6);
+    assert!(rt; !is_woken(&SystemClock::new(&rt), &mut link, 2));
     drop(peer);
     Ok(())
 }
@@ -139,7 +141,7 @@ fn a_bell_that_was_rung_a_million_times_still_rings(rt: HostRuntime) -> Result<(
     let mut link = accepted(&mut net).ok_or("no link")?;
     link.wait(1_000);
     bell.ring();
-    assert!(rt; is_woken(&SystemClock::new(&rt), &mut link));
+    assert!(rt; is_woken(&SystemClock::new(&rt), &mut link, 10));
     drop(peer);
     Ok(())
 }

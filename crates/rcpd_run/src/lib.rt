@@ -19,6 +19,7 @@ mod jobs;
 mod running;
 mod serving;
 
+pub use daemon_jobs::TURNED;
 pub use feed_format::{RosterWhy, Status};
 pub use running::run_daemon;
 

@@ -21,8 +21,8 @@ use std::sync::Wait;
 /// How many octets are read at once.
 const PIECE: usize = 4096;
 
-/// How long a greeting rests where nothing has come, in milliseconds.
-const REST: u32 = 20;
+/// How long a greeting rests where nothing has come, in milliseconds: how late a timer is seen. What comes on the link ends the rest.
+const REST: u32 = 1_000;
 
 /// A session before its seat is claimed.
 #[derive(Drop)]

@@ -25,8 +25,9 @@ use std::sync::Wait;
 /// How many octets are read at once.
 const PIECE: usize = 4096;
 
-/// How long a session rests where nothing has come, in milliseconds.
-const REST: u32 = 20;
+/// How long a session rests where nothing has come, in milliseconds: how late a timer is seen. What comes on the link ends the rest, and so does
+/// whoever rings for offers.
+const REST: u32 = 1_000;
 
 /// A session that holds its seat, and what it has done.
 #[derive(Drop)]

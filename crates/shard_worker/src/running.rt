@@ -158,6 +158,17 @@ impl Running {
         put_dirty(rt, &mut self.shard, slot, generation, sender)
     }
 
+    /// Whether a connected slot has a dirty cell, which is one that found its mailbox full. It looks at each slot.
+    pub(crate) fn has_offers_left(&self) -> bool {
+        for slot in 0..self.members() {
+            let slot = Slot(slot);
+            if self.shard.connected(slot) && self.shard.least_dirty(slot).is_some() {
+                return true;
+            }
+        }
+        false
+    }
+
     fn is_own(&self, sender: u32, slot: Slot) -> bool
         ensures { result ≡ is_own self.now.shard sender slot }
     {

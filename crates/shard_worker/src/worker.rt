@@ -20,6 +20,9 @@ use rcs_shard::Shard;
 use std::marker::Model;
 use std::sync::Wait;
 
+/// How long a worker rests before it tries a full mailbox again, in milliseconds.
+const FULL_REST: u32 = 5;
+
 /// What a turn did.
 #[derive(Clone, Copy, Debug, PartialEq, Eq)]
 pub struct Turned {
@@ -157,6 +160,17 @@ impl Worker {
             offered,
             empty,
         })
+    }
+
+    /// Rests until a message was put since the last rest, at most so many milliseconds. It may return before. Where offers are left whose mailbox was full, which nobody reports once it has
+    /// room, the rest is at most 5 milliseconds. It looks at each slot.
+    pub fn rest<R: Wait>(&self, rt: &R, milliseconds: u32) {
+        let longest = if self.running.has_offers_left() {
+            milliseconds.min(FULL_REST)
+        } else {
+            milliseconds
+        };
+        self.mail.rest(rt, longest);
     }
 
     /// Takes a worker apart, a spent one too: its shard, its mailbox and its senders of offers by slot. It takes no memory.

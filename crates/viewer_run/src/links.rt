@@ -5,15 +5,13 @@ ghost use Rattle.viewer_run.specs.Viewing.{HasShown};
 
 use crate::stream::{serve_stream, take_piece};
 use cost_rows::View;
-use crossbeam_queue::ArrayQueue;
 use igp_view::IgpView;
+use link_acceptor::LinkQueue;
 use mailbox::Sender;
 use outside::{Clock, Link, StopMark};
 use rcp_model::rcs_mail::ShardMail;
 use std::alloc::Global;
 use std::sync::Wait;
-use std::thread::Parker;
-use std::time::Duration;
 
 /// How the viewer ended.
 #[derive(Clone, Copy, Debug, PartialEq, Eq)]
@@ -22,15 +20,15 @@ pub struct ViewerEnd {
     pub memory: bool,
 }
 
-/// The longest rest without a stream, in milliseconds.
-const REST: u64 = 50;
+/// The longest rest without a stream, in milliseconds: how late the end of an LSA's age is seen then.
+const REST: u32 = 1_000;
 
 /// Serves the streams that stand in the queue one after another, until the mark is set or memory is refused. Between them time passes: a view
 /// is put to every shard where edges changed by it.
 pub fn serve_links<R: Wait, L: Link, C: Clock>(
     rt: &R,
     alloc: Global,
-    links: &ArrayQueue<L>,
+    links: &LinkQueue<L>,
     clock: &C,
     igp: &mut IgpView,
     shards: &mut [Sender<ShardMail<View>>],
@@ -40,7 +38,6 @@ pub fn serve_links<R: Wait, L: Link, C: Clock>(
     ensures roster { IsOfSameRoster igp.old igp.new }
     ensures cause { result.memory ≡ false → IsTrue stop.now }
 {
-    let parker = Parker::new();
     for _ in rt.forever() {
         if stop.is_set() {
             return ViewerEnd { memory: false };
@@ -55,7 +52,7 @@ pub fn serve_links<R: Wait, L: Link, C: Clock>(
             if take_piece(rt, alloc, &[], clock, igp, shards).is_err() {
                 return ViewerEnd { memory: true };
             }
-            parker.park_timeout(rt, Duration::from_millis(REST));
+            links.rest(rt, REST);
         }
     }
     unreachable!()

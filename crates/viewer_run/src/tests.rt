@@ -3,8 +3,8 @@ ghost use Rattle.std.specs.Prelude.{IsTrue};
 
 use crate::{StreamWhy, serve_links, serve_stream};
 use cost_rows::View;
-use crossbeam_queue::ArrayQueue;
 use igp_view::IgpView;
+use link_acceptor::LinkQueue;
 use lsa_reader::{Lsa, LsaLink, POINT_TO_POINT, write};
 use mailbox::{Receiver, Sender, make, take};
 use outside::{MemClock, MemLink, StopMark};
@@ -196,7 +196,7 @@ fn await_views<R: Wait>(
 fn run_viewer<R: Threads + Wait + Sync>(
     rt: &R,
     alloc: Global,
-    queue: &ArrayQueue<MemLink>,
+    queue: &LinkQueue<MemLink>,
     igp: &mut IgpView,
     senders: &mut Vec<Sender<ShardMail<View>>>,
     receivers: &mut Vec<Receiver<ShardMail<View>>>,
@@ -219,7 +219,7 @@ fn run_viewer<R: Threads + Wait + Sync>(
 fn streams_in_a_queue_are_served_one_after_another(rt: HostRuntime) -> Result<(), Fail> {
     let alloc = rt.alloc();
     let mut parts = make_parts(&rt, alloc)?;
-    let queue = ArrayQueue::new(alloc, 2)?;
+    let queue = LinkQueue::new(alloc, 2)?;
     let first = queue
         .push(&rt, link(alloc, update(alloc, A, B, 10)?, 0)?)
         .is_ok();
