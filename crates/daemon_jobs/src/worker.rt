@@ -1,5 +1,7 @@
 //! The job of a shard's worker.
 
+ghost use Rattle.std.specs.Prelude.{◌≡◌, IsTrue, true};
+
 use crate::shared::Shared;
 use mailbox::{Receiver, take};
 use outside::{Gate, Link, StopMark};
@@ -55,7 +57,9 @@ impl WorkerJob {
 }
 
 /// Takes turns until the mark is set and no message is left. False where a turn found no memory.
-fn take_turns<G: Gate, R: Wait>(rt: &R, worker: &mut Worker, gate: &G, quiet: &StopMark) -> bool {
+fn take_turns<G: Gate, R: Wait>(rt: &R, worker: &mut Worker, gate: &G, quiet: &StopMark) -> bool
+    ensures quiet { result ≡ true → IsTrue quiet.now }
+{
     for _ in rt.forever() {
         let last = quiet.is_set();
         let Ok(turned) = worker.turn(rt, BUDGET, gate) else {
