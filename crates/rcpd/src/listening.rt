@@ -1,8 +1,7 @@
 //! What the daemon needs of the system: its listeners, the clock, and the gate that wakes its sessions.
 
-ghost use Rattle.std.specs.Prelude.{◌≡◌, ◌↔◌, map, OnOk, OnErr, IfErr, IfOk};
-ghost use Rattle.rcpd_words.specs.Words.{StandFor, StandForNone};
-ghost use Rattle.rcpd_words.specs.declared.settings.Settings.{Settings};
+ghost use Rattle.std.specs.Prelude.{◌≡◌, ◌↔◌, ◌⊎◌, Err, map, IfErr};
+ghost use Rattle.rcpd_words.specs.Words.{StandForNone};
 ghost use Rattle.rcpd.specs.Listening.{IsAt};
 
 use feed_format::Status;

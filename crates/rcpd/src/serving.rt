@@ -1,8 +1,7 @@
 //! The run of the daemon over standard input and output.
 
-ghost use Rattle.std.specs.Prelude.{◌≡◌, ◌↔◌, map};
+ghost use Rattle.std.specs.Prelude.{◌≡◌, ◌↔◌, ◌⊎◌, ◌+◌, ◌-◌, ◌^◌, map};
 ghost use Rattle.outside.specs.Told.{Rose};
-ghost use Rattle.link_acceptor.specs.Accepting.{RoseBy};
 ghost use Rattle.rcpd_words.specs.Words.{StandFor, StandForNone};
 ghost use Rattle.rcpd_words.specs.declared.settings.Settings.{Settings};
 ghost use Rattle.rcpd_run.specs.Daemons.{ReachesReport, IsOfDaemon};
@@ -29,7 +28,7 @@ where
     ensures never { IsOfDaemon result }
     ensures cause { result ≡ Status.NetFault → Rose (N.faults outside.old.net) (N.faults outside.new.net) }
     ensures handed_out { ReachesReport result → (settings : Settings) → StandFor (map (λ word. word.now) words.now) settings
-        → RoseBy settings.sessions (N.handed_out outside.old.net) (N.handed_out outside.new.net) }
+        → (N.handed_out outside.new.net ≡ N.handed_out outside.old.net + settings.sessions) ⊎ (N.handed_out outside.new.net ≡ 2 ^ 64 - 1) }
 {
     let mut source = ReaderSource::new(rt.reader());
     let mut sink = WriterSink::new(io::writer(rt));

@@ -4,8 +4,8 @@ use crate::listening::{Outside, listen};
 use crate::serving::serve;
 use feed_format::Status;
 use outside::{MemClock, MemLink, MemNet, OpenGate};
-use std::alloc::Global;
-use std::net::{Ipv4Addr, Net, SocketAddr, TcpListener};
+use std::alloc::{AllocError, Global};
+use std::net::{Ipv4Addr, Net, OpenListener, SocketAddr, TcpListener};
 use std::test::Fail;
 use std::time::Clock;
 
@@ -16,26 +16,36 @@ fn words_of_no_settings_open_nothing(rt: HostRuntime) {
 }
 
 /// A listener at a free port of the loopback address.
-fn listener<N: Net>(rt: &N) -> Result<(TcpListener, SocketAddr), Fail> {
+fn listener<N: Net>(rt: &N) -> Result<(N::Listener, SocketAddr), Fail> {
     let listener = TcpListener::bind(rt, SocketAddr::from((Ipv4Addr::LOCALHOST, 0)))?;
     let at = listener.local_addr()?;
     Ok((listener, at))
 }
 
-/// Where the daemon listens for BGP sessions and for link state, with words of these addresses.
+/// The options of the two addresses.
+fn options(
+    alloc: Global,
+    bgp: SocketAddr,
+    link_state: SocketAddr,
+) -> Result<(String, String), AllocError> {
+    let bgp = format!(in alloc; "--bgp={bgp}")?;
+    let link_state = format!(in alloc; "--ls={link_state}")?;
+    Ok((bgp, link_state))
+}
+
+/// Where the daemon listens for BGP sessions and for link state, with the words of these addresses.
 fn listening<R: Clock + Net>(
     rt: &R,
     alloc: Global,
     bgp: SocketAddr,
     link_state: SocketAddr,
-) -> Result<Result<(SocketAddr, SocketAddr), Status>, Fail> {
-    let bgp = format!(in alloc; "--bgp={bgp}")?;
-    let link_state = format!(in alloc; "--ls={link_state}")?;
+) -> Result<(SocketAddr, SocketAddr), Fail> {
+    let (bgp, link_state) = options(alloc, bgp, link_state)?;
     let words = [bgp.as_str(), link_state.as_str(), "--sessions=1"];
-    match listen(rt, alloc, &words) {
-        Ok(outside) => Ok(Ok((outside.net.bgp_addr()?, outside.net.link_state_addr()?))),
-        Err(status) => Ok(Err(status)),
-    }
+    let Ok(outside) = listen(rt, alloc, &words) else {
+        return Err("refused")?;
+    };
+    Ok((outside.net.bgp_addr()?, outside.net.link_state_addr()?))
 }
 
 #[test]
@@ -45,7 +55,7 @@ fn the_daemon_listens_where_its_words_say(rt: HostRuntime) -> Result<(), Fail> {
     drop(one);
     drop(two);
     let found = listening(&rt, rt.alloc(), bgp, link_state)?;
-    assert!(rt; found == Ok((bgp, link_state)));
+    assert!(rt; found.0 == bgp && found.1 == link_state);
     Ok(())
 }
 
@@ -54,8 +64,10 @@ fn an_address_in_use_is_a_fault_of_the_net(rt: HostRuntime) -> Result<(), Fail> 
     let (one, free) = listener(&rt)?;
     let (_two, taken) = listener(&rt)?;
     drop(one);
-    let found = listening(&rt, rt.alloc(), free, taken)?;
-    assert!(rt; found == Err(Status::NetFault));
+    let (bgp, link_state) = options(rt.alloc(), free, taken)?;
+    let words = [bgp.as_str(), link_state.as_str(), "--sessions=1"];
+    let refused = listen(&rt, rt.alloc(), &words).err();
+    assert_eq!(rt; refused, Some(Status::NetFault));
     Ok(())
 }
 
