@@ -4,6 +4,7 @@
     speakers.py roster CLIENTS SHARDS > ROSTER
     speakers.py load ADDRESS:PORT CLIENTS PREFIXES ROUNDS PID
     speakers.py edges ADDRESS:PORT CLIENTS PREFIXES SECONDS
+    speakers.py restarts ADDRESS:PORT CLIENTS PREFIXES TURNS SEED
 
 `roster` writes the roster of a ring of routers. The others open one session for each router of it, and announce PREFIXES prefixes in equal parts, 50
 to an UPDATE with attributes of their own.
@@ -14,7 +15,11 @@ closed and opened again takes until it has all prefixes. It uses CLIENTS + 1 of 
 
 `edges` prints what the others see while one client is killed in the middle of a message, and while another reads nothing for so many seconds although all
 prefixes change again and again.
+
+`restarts` closes, resets and opens sessions and changes announcements at random, in so many turns, and then prints after how long each client had exactly the
+last announcements of all others.
 """
+import random
 import selectors
 import socket
 import struct
@@ -39,6 +44,11 @@ def message(kind, body=b""):
     return b"\xff" * 16 + struct.pack(">HB", 19 + len(body), kind) + body
 
 
+def prefix_octets(prefix):
+    """A prefix of 24 bits (RFC 4271 section 4.3)."""
+    return b"\x18" + struct.pack(">I", prefix << 8)[:3]
+
+
 def update(number, prefixes, preference=100):
     """An UPDATE of the router: these prefixes of 24 bits by way of itself. The AS_PATH ends with the first prefix."""
     attributes = (
@@ -47,22 +57,25 @@ def update(number, prefixes, preference=100):
         + bytes([0x40, 3, 4]) + router(number)
         + bytes([0x40, 5, 4]) + struct.pack(">I", preference)
     )
-    reach = b"".join(b"\x18" + struct.pack(">I", prefix << 8)[:3] for prefix in prefixes)
+    reach = b"".join(map(prefix_octets, prefixes))
     return message(UPDATE, struct.pack(">HH", 0, len(attributes)) + attributes + reach)
 
 
-class Speaker:
-    """A router's session. It counts the prefixes that are announced and withdrawn to it, and keeps the last attributes of each if asked."""
+class Ended(Exception):
+    """The daemon ended a session."""
 
-    def __init__(self, place, number):
-        self.number, self.pending, self.opened = number, b"", False
-        self.announced, self.withdrawn, self.table = 0, 0, None
+
+class Speaker:
+    """A router's session that is established. It counts the prefixes that are announced and withdrawn to it, and keeps the attributes of each if asked."""
+
+    def __init__(self, place, number, table=None):
+        self.number, self.pending, self.established = number, b"", False
+        self.announced, self.withdrawn, self.table = 0, 0, table
         self.socket = socket.create_connection(place)
         self.socket.setsockopt(socket.IPPROTO_TCP, socket.TCP_NODELAY, 1)
-        self.send(message(OPEN, struct.pack(">BHH", 4, AS, HOLD) + router(number) + b"\0"))
-        while not self.opened:
+        self.send(message(OPEN, struct.pack(">BHH", 4, AS, HOLD) + router(number) + b"\0") + message(KEEPALIVE))
+        while not self.established:
             self.read()
-        self.send(message(KEEPALIVE))
 
     def send(self, octets):
         self.socket.sendall(octets)
@@ -72,7 +85,7 @@ class Speaker:
         """Reads what has come. A NOTIFICATION or an end is an error."""
         octets = self.socket.recv(1 << 18)
         if not octets:
-            raise SystemExit(f"{dotted(router(self.number))}: closed by the daemon")
+            raise Ended(f"{dotted(router(self.number))}: closed by the daemon")
         octets, at = self.pending + octets, 0
         while len(octets) - at >= 19 and (size := struct.unpack_from(">H", octets, at + 16)[0]) <= len(octets) - at:
             self.take(octets[at + 18], octets[at + 19 : at + size])
@@ -81,15 +94,17 @@ class Speaker:
 
     def take(self, kind, body):
         if kind == NOTIFICATION:
-            raise SystemExit(f"{dotted(router(self.number))}: NOTIFICATION {body[0]}/{body[1]}")
-        if kind == OPEN:
-            self.opened = True
+            raise Ended(f"{dotted(router(self.number))}: NOTIFICATION {body[0]}/{body[1]}")
+        if kind == KEEPALIVE:
+            self.established = True
         if kind == UPDATE:
             gone = struct.unpack_from(">H", body)[0]
             start = 4 + gone + struct.unpack_from(">H", body, 2 + gone)[0]
             self.withdrawn += gone // 4
             self.announced += (len(body) - start) // 4
             if self.table is not None:
+                for at in range(2, 2 + gone, 4):
+                    self.table.pop(body[at : at + 4], None)
                 for at in range(start, len(body), 4):
                     self.table[body[at : at + 4]] = body[4 + gone : start]
 
@@ -97,11 +112,11 @@ class Speaker:
 class Mesh:
     """Speakers that are read together."""
 
-    def __init__(self, place, clients):
+    def __init__(self, speakers):
         self.ready = selectors.DefaultSelector()
         self.speakers = []
-        for number in range(clients):
-            self.add(Speaker(place, number))
+        for speaker in speakers:
+            self.add(speaker)
 
     def add(self, speaker):
         self.speakers.append(speaker)
@@ -183,7 +198,7 @@ def peak_memory(pid):
 
 
 def load(place, clients, prefixes, rounds, pid):
-    mesh = Mesh(place, clients)
+    mesh = Mesh([Speaker(place, number) for number in range(clients)])
     time_taken, shares = fill(mesh, prefixes)
     print(f"first fill: {time_taken:.0f} ms; peak memory {peak_memory(pid):.0f} MiB", flush=True)
     mesh.rest(2)
@@ -238,7 +253,7 @@ def stall(mesh, stalled, shares, seconds):
 
 
 def edges(place, clients, prefixes, seconds):
-    mesh = Mesh(place, clients)
+    mesh = Mesh([Speaker(place, number) for number in range(clients)])
     _, shares = fill(mesh, prefixes)
     victim = mesh.speakers[1]
     print(f"a killed client: the others lost its prefixes after {kill(mesh, victim, len(shares[1])):.0f} ms", flush=True)
@@ -246,6 +261,43 @@ def edges(place, clients, prefixes, seconds):
     turns, longest, after = stall(mesh, mesh.speakers[1], shares, seconds)
     print(f"a client that read nothing for {seconds} s: all prefixes changed {turns} times, and the others had each change within {longest:.0f} ms", flush=True)
     print(f"then it read again, and had the last change of each prefix after {after:.0f} ms", flush=True)
+
+
+def reopened(mesh, place, speaker):
+    """A new session of the speaker's router, once the daemon has seen the end of the one before: until then it answers with a Cease."""
+    mesh.remove(speaker)
+    if random.random() < 0.5:
+        speaker.socket.setsockopt(socket.SOL_SOCKET, socket.SO_LINGER, struct.pack("ii", 1, 0))
+    speaker.socket.close()
+    while True:
+        try:
+            again = Speaker(place, speaker.number, {})
+        except (Ended, ConnectionResetError):
+            mesh.rest(0.05)
+        else:
+            mesh.add(again)
+            return again
+
+
+def restarts(place, clients, prefixes, turns, seed):
+    random.seed(seed)
+    mesh = Mesh([Speaker(place, number, {}) for number in range(clients)])
+    _, shares = fill(mesh, prefixes)
+    preferences, count = [100] * clients, 0
+    for _ in range(turns):
+        mesh.rest(random.choice([0, 0, 0.05]))
+        speaker = random.choice(mesh.speakers)
+        if random.random() < 0.5:
+            speaker, count = reopened(mesh, place, speaker), count + 1
+        preferences[speaker.number] = random.randint(100, 999)
+        announce(speaker, shares[speaker.number], preferences[speaker.number])
+
+    def has_all(speaker):
+        others = [number for number in range(clients) if number != speaker.number]
+        wanted = {prefix_octets(prefix): preferences[number] for number in others for prefix in shares[number]}
+        return {prefix: struct.unpack(">I", attributes[-4:])[0] for prefix, attributes in speaker.table.items()} == wanted
+
+    print(f"after {count} restarts in {turns} turns all clients had exactly the last routes within {mesh.wait(mesh.speakers, has_all, 'the last routes'):.0f} ms")
 
 
 def ring(clients, shards):
@@ -261,7 +313,7 @@ def main(command, *words):
         ring(*map(int, words))
     else:
         host, port = words[0].split(":")
-        {"load": load, "edges": edges}[command]((host, int(port)), *map(int, words[1:]))
+        {"load": load, "edges": edges, "restarts": restarts}[command]((host, int(port)), *map(int, words[1:]))
 
 
 main(*sys.argv[1:])
