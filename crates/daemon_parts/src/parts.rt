@@ -2,7 +2,9 @@
 
 ghost use Rattle.std.specs.Prelude.{◌≡◌, ◌<◌, ◌≤◌, ℕ, [], length, map, All, IfOk, slice_index_or};
 ghost use Rattle.mailbox.specs.Boxes.{received, sent};
-ghost use Rattle.daemon_parts.specs.Parts.{AreOfSlot};
+ghost use Rattle.shard_worker.specs.Ends.{inbox_of, port_of};
+ghost use Rattle.shard_worker.specs.Workers.{WorkerOf};
+ghost use Rattle.daemon_parts.specs.Parts.{AreOfSlot, AreWired};
 ghost use Rattle.daemon_parts.specs.declared.parts.SeatEnds.{SeatEnds};
 
 use crate::mesh::make_mesh;
@@ -53,6 +55,7 @@ impl Parts {
         ensures ends { IfOk result (λ parts. (slot : ℕ) (seat : SeatEnds) → slot < length parts.seats.items → AreOfSlot slot roster.now.shards (slice_index_or parts.seats.items slot seat).shards.items) }
         ensures workers { IfOk result (λ parts. length parts.workers.items ≡ roster.now.shards) }
         ensures viewer { IfOk result (λ parts. length parts.viewer.items ≡ roster.now.shards) }
+        ensures wired { IfOk result (λ parts. AreWired roster.now.shards (length roster.now.members) parts.workers.items parts.seats.items parts.viewer.items) }
     {
         let igp = IgpView::new(alloc, roster)?;
         let shards = usize::from(roster.shards());
@@ -82,7 +85,10 @@ fn workers_of(
     requires mails { All (λ mail. received mail ≡ []) mails.items × (length mails.items ≡ roster.now.shards) }
     requires offers { All (λ row. (length row.items ≡ length roster.now.members) × All (λ sender. sent sender ≡ []) row.items) offers.items × (length offers.items ≡ roster.now.shards) }
     requires members { igp.now.members ≡ roster.now.members }
-    ensures { IfOk result (λ workers. length workers.items ≡ roster.now.shards) }
+    ensures count { IfOk result (λ workers. length workers.items ≡ roster.now.shards) }
+    ensures numbers { IfOk result (λ workers. (shard : ℕ) (worker : WorkerOf) → shard < roster.now.shards → (slice_index_or workers.items shard worker).run.shard.number ≡ shard) }
+    ensures mails { IfOk result (λ workers. (shard : ℕ) (worker : WorkerOf) (mail : _) → shard < roster.now.shards → (slice_index_or workers.items shard worker).inbox ≡ inbox_of (slice_index_or mails.items shard mail)) }
+    ensures offers { IfOk result (λ workers. (shard : ℕ) (worker : WorkerOf) (row : _) → shard < roster.now.shards → (slice_index_or workers.items shard worker).ports ≡ map port_of (slice_index_or offers.items shard row).items) }
 {
     let mut mails = VecDeque::from_vec(mails);
     let mut offers = VecDeque::from_vec(offers);
@@ -107,7 +113,8 @@ fn seats_of(
     requires rows { slots ≤ length rows.items }
     requires receivers { slots ≤ length receivers.items }
     ensures count { IfOk result (λ seats. length seats.items ≡ slots) }
-    ensures rows { IfOk result (λ seats. (slot : ℕ) (seat : SeatEnds) → slot < slots → (slice_index_or seats.items slot seat).shards.items ≡ slice_index_or (map (λ row. row.items) rows.items) slot []) }
+    ensures rows { IfOk result (λ seats. (slot : ℕ) (seat : SeatEnds) (row : _) → slot < slots → (slice_index_or seats.items slot seat).shards ≡ slice_index_or rows.items slot row) }
+    ensures receivers { IfOk result (λ seats. (slot : ℕ) (seat : SeatEnds) (receiver : _) → slot < slots → (slice_index_or seats.items slot seat).offers ≡ slice_index_or receivers.items slot receiver) }
 {
     let mut rows = VecDeque::from_vec(rows);
     let mut receivers = VecDeque::from_vec(receivers);
