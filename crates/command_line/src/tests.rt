@@ -33,22 +33,30 @@ impl Env for Words<'_> {
     }
 }
 
-fn are_same(found: &[String], wanted: &[&str]) -> bool {
+fn are_same(found: &[&str], wanted: &[&str]) -> bool {
     if found.len() != wanted.len() {
         return false;
     }
     for place in 0..found.len() {
-        if found[place].as_str() != wanted[place] {
+        if found[place] != wanted[place] {
             return false;
         }
     }
     true
 }
 
+/// Whether the texts of the words are these.
+fn are_texts(alloc: Global, words: &[String], wanted: &[&str]) -> bool {
+    match texts(alloc, words) {
+        Ok(found) => are_same(&found, wanted),
+        Err(_) => false,
+    }
+}
+
 /// Whether the words after the program's name are these.
 fn are_words(alloc: Global, all: &[&[u8]], wanted: &[&str]) -> bool {
     match words(&(Words(all), alloc)) {
-        Ok(found) => are_same(&found, wanted),
+        Ok(found) => are_texts(alloc, &found, wanted),
         Err(_) => false,
     }
 }
