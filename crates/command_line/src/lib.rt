@@ -11,10 +11,9 @@ ghost use Rattle.std.specs.Prelude.{◌≡◌, map, IfOk, string_bytes};
 
 use feed_format::Status;
 use std::alloc::Global;
-use std::env;
-use std::io;
 use std::io::{ErrorKind, Write};
 use std::rt::Env;
+use std::{env, io};
 
 /// The words that follow the program's name. `Usage` where one isn't text, `NoMemory` where there was no memory for them.
 pub fn words<R: AllocGlobal + Env>(rt: &R) -> Result<Vec<String>, Status> {
