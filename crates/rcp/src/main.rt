@@ -5,6 +5,7 @@
 
 mod steps;
 
+use command_line::{report, words};
 use rcp_run::Status;
 use standard_streams::{ReaderSource, WriterSink};
 use std::io;
@@ -16,7 +17,7 @@ use std::thread::Threads;
 /// Runs the command of the words that follow the program's name, over standard input and output.
 fn run_program<R: AllocGlobal + Env + Input + Print + Threads + Sync>(rt: &R) -> Status {
     let alloc = rt.alloc();
-    let words = match steps::words(rt) {
+    let words = match words(rt) {
         Ok(words) => words,
         Err(status) => return status,
     };
@@ -33,7 +34,7 @@ fn run_program<R: AllocGlobal + Env + Input + Print + Threads + Sync>(rt: &R) ->
 
 fn main(rt: HostRuntime) -> ExitCode {
     let status = run_program(&rt);
-    let _ = steps::report(status, &mut io::writer(&rt.stderr()));
+    let _ = report("rcp", status, &mut io::writer(&rt.stderr()));
     ExitCode::from(status.code())
 }
 

@@ -1,4 +1,3 @@
-//! The way from words to a status, its code and its line, over readers and writers in memory.
+//! The way from words to a status, over readers and writers in memory.
 
 mod output;
-mod words;

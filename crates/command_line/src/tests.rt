@@ -1,7 +1,7 @@
-//! The words of the program, and the line and the code of each status.
+//! Words, and the line and the code of each status.
 
-use crate::steps::{report, words};
-use rcp_run::{FeedWhy, RosterWhy, Status};
+use crate::{report, texts, words};
+use feed_format::{FeedWhy, RosterWhy, Status};
 use std::alloc::Global;
 use std::env::FillError;
 use std::rt::Env;
@@ -33,22 +33,30 @@ impl Env for Words<'_> {
     }
 }
 
-fn are_same(found: &[String], wanted: &[&str]) -> bool {
+fn are_same(found: &[&str], wanted: &[&str]) -> bool {
     if found.len() != wanted.len() {
         return false;
     }
     for place in 0..found.len() {
-        if found[place].as_str() != wanted[place] {
+        if found[place] != wanted[place] {
             return false;
         }
     }
     true
 }
 
+/// Whether the texts of the words are these.
+fn are_texts(alloc: Global, words: &[String], wanted: &[&str]) -> bool {
+    match texts(alloc, words) {
+        Ok(found) => are_same(&found, wanted),
+        Err(_) => false,
+    }
+}
+
 /// Whether the words after the program's name are these.
 fn are_words(alloc: Global, all: &[&[u8]], wanted: &[&str]) -> bool {
     match words(&(Words(all), alloc)) {
-        Ok(found) => are_same(&found, wanted),
+        Ok(found) => are_texts(alloc, &found, wanted),
         Err(_) => false,
     }
 }
@@ -68,13 +76,13 @@ fn a_word_that_is_not_text_is_a_fault_of_usage(rt: HostRuntime) {
 /// Whether a status is reported by this line.
 fn is_reported(alloc: Global, status: Status, line: &str) -> Result<bool, Fail> {
     let mut errors = Vec::new(alloc);
-    report(status, &mut errors).map_err(|_| "no line")?;
+    report("rcp", status, &mut errors).map_err(|_| "no line")?;
     Ok(errors.as_slice() == line.as_bytes())
 }
 
 #[test]
 fn a_status_has_its_code_and_its_line(rt: HostRuntime) -> Result<(), Fail> {
-    let rows: [(Status, u8, &str); 7] = [
+    let rows: [(Status, u8, &str); 8] = [
         (Status::Done, 0, ""),
         (Status::Usage, 2, "rcp: usage\n"),
         (
@@ -97,6 +105,7 @@ fn a_status_has_its_code_and_its_line(rt: HostRuntime) -> Result<(), Fail> {
         (Status::Read, 5, "rcp: read fault\n"),
         (Status::Write, 6, "rcp: write fault\n"),
         (Status::NoMemory, 7, "rcp: no memory\n"),
+        (Status::NetFault, 9, "rcp: net fault\n"),
     ];
     for (status, code, line) in rows {
         assert_eq!(rt; status.code(), code);
