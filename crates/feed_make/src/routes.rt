@@ -42,7 +42,8 @@ pub fn announcement(
 {
     let attrs = attributes(draws, group, router);
     let prefixes = prefixes(alloc, group)?;
-    update_message(alloc, &[], &attrs, &prefixes)
+    let message = update_message(alloc, &[], &attrs, &prefixes)?;
+    Ok(message)
 }
 
 /// The attributes of a route of a group (RFC 4271 section 4.3, RFC 1997), with five drawn numbers.
