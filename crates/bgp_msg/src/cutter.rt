@@ -10,8 +10,8 @@ ghost use Rattle.bgp_msg.specs.HeaderFields.{IsLengthOf};
 
 use crate::framing::{Message, first_message};
 use crate::header::{HEADER_LEN, MOST_OCTETS, read_header};
-use crate::put::put;
 use bgp_fault::Fault;
+use octet_room::Room;
 use std::marker::Model;
 
 /// Cuts a stream of octets into messages. It holds the octets that came and weren't handed out: at most one message.
@@ -101,6 +101,6 @@ fn fill(buffer: &mut [u8; 4096], len: usize, goal: usize, piece: &[u8]) -> usize
 {
     let count = goal.saturating_sub(len).min(piece.len());
     let (front, _) = piece.split_at(count);
-    put(buffer, len, front);
+    buffer.put(len, front);
     count
 }

@@ -21,7 +21,7 @@ pub fn keepalive_message(alloc: Global) -> Result<Vec<u8>, NoMemory>
     ensures count { IfOk result (λ message. length message.items ≡ 19) }
     ensures octets { IfOk result (λ message. message.items ≡ keepalive_octets) }
 {
-    let mut message = vec![in alloc; 0; HEADER_LEN]?;
+    let mut message = Vec::with_capacity(alloc, HEADER_LEN)?;
     put_header(&mut message, KEEPALIVE, HEADER_LEN as u16);
     Ok(message)
 }

@@ -6,8 +6,9 @@ ghost use Rattle.bgp_msg.specs.Written.{data_length};
 ghost use Rattle.rcp_model.specs.Messages.{notification_octets};
 
 use crate::header::NOTIFICATION;
-use crate::put::{put, put_header};
+use crate::put::put_header;
 use bgp_fault::{Data, Fault};
+use octet_room::Room;
 use rcp_base::NoMemory;
 use std::alloc::Global;
 
@@ -58,23 +59,24 @@ pub fn notification_message(alloc: Global, fault: &Fault, body: &[u8]) -> Result
     ensures count { IfOk result (λ message. length message.items ≡ 21 + data_length fault.now.extra) }
     ensures octets { IfOk result (λ message. message.items ≡ notification_octets (record { code = fault.now.code; sub = fault.now.sub; content = data_octets body.now fault.now.extra })) }
 {
-    let mut message = vec![in alloc; 0; LEAST_NOTIFICATION + data_len(fault.extra)]?;
+    let mut message = Vec::with_capacity(alloc, LEAST_NOTIFICATION + data_len(fault.extra))?;
     put_notification(&mut message, fault, body);
     Ok(message)
 }
 
 /// Writes the NOTIFICATION of a fault at the front, and answers how many octets it has.
-fn put_notification(out: &mut [u8], fault: &Fault, body: &[u8]) -> usize
+fn put_notification<R: Room>(out: &mut R, fault: &Fault, body: &[u8]) -> usize
     requires within { IsWithin body.now fault.now.extra }
     requires short { data_length fault.now.extra ≤ 4073 }
-    requires room { 21 + data_length fault.now.extra ≤ length out.old }
+    requires place { R.is_place out.old 0 }
+    requires room { 21 + data_length fault.now.extra ≤ R.size out.old }
     ensures count { result ≡ 21 + data_length fault.now.extra }
-    ensures octets { take result out.new ≡ notification_octets (record { code = fault.now.code; sub = fault.now.sub; content = data_octets body.now fault.now.extra }) }
-    ensures room { length out.new ≡ length out.old }
+    ensures octets { take result (R.octets out.new) ≡ notification_octets (record { code = fault.now.code; sub = fault.now.sub; content = data_octets body.now fault.now.extra }) }
+    ensures place { R.is_place out.new result }
 {
     let count = LEAST_NOTIFICATION + data_len(fault.extra);
     let at = put_header(out, NOTIFICATION, count as u16);
-    let at = put(out, at, &[fault.code, fault.sub]);
+    let at = out.put(at, &[fault.code, fault.sub]);
     put_data(out, at, fault.extra, body)
 }
 
@@ -91,20 +93,21 @@ fn data_len(extra: Data) -> usize
 }
 
 /// Writes the data of a fault after the first `at` octets, and answers where it ends.
-fn put_data(out: &mut [u8], at: usize, extra: Data, body: &[u8]) -> usize
+fn put_data<R: Room>(out: &mut R, at: usize, extra: Data, body: &[u8]) -> usize
     requires within { IsWithin body.now extra }
-    requires room { at + data_length extra ≤ length out.old }
+    requires place { R.is_place out.old at }
+    requires room { at + data_length extra ≤ R.size out.old }
     ensures end { result ≡ at + data_length extra }
-    ensures octets { take result out.new ≡ take at out.old ++ data_octets body.now extra }
-    ensures room { length out.new ≡ length out.old }
+    ensures octets { take result (R.octets out.new) ≡ take at (R.octets out.old) ++ data_octets body.now extra }
+    ensures place { R.is_place out.new result }
 {
     match extra {
         Data::None => at,
-        Data::Octet(octet) => put(out, at, &[octet]),
-        Data::Pair(number) => put(out, at, &number.to_be_bytes()),
+        Data::Octet(octet) => out.put(at, &[octet]),
+        Data::Pair(number) => out.put(at, &number.to_be_bytes()),
         Data::Span { start, len } => {
             let start = usize::from(start);
-            put(out, at, &body[start..start + usize::from(len)])
+            out.put(at, &body[start..start + usize::from(len)])
         }
     }
 }

@@ -7,11 +7,12 @@ ghost use Rattle.bgp_fault.specs.Faults.{data_octets, IsWithin};
 ghost use Rattle.bgp_msg.specs.Opened.{fields_of, fault_but_identifier, parameters_fault, open_error};
 
 use crate::header::OPEN;
-use crate::put::{put, put_header};
+use crate::put::put_header;
 use bgp_fault::{
     BAD_PEER_AS, Data, Fault, OPEN_MESSAGE_ERROR, UNACCEPTABLE_HOLD_TIME, UNSPECIFIC,
     UNSUPPORTED_OPTIONAL_PARAMETER, UNSUPPORTED_VERSION_NUMBER,
 };
+use octet_room::Room;
 use rcp_base::{Addr, NoMemory};
 use std::alloc::Global;
 
@@ -90,24 +91,25 @@ pub fn open_message(alloc: Global, offer: &OpenBody) -> Result<Vec<u8>, NoMemory
     ensures count { IfOk result (λ message. length message.items ≡ 29) }
     ensures octets { IfOk result (λ message. message.items ≡ open_octets (fields_of offer.now)) }
 {
-    let mut message = vec![in alloc; 0; usize::from(LEAST_OPEN)]?;
+    let mut message = Vec::with_capacity(alloc, usize::from(LEAST_OPEN))?;
     put_open(&mut message, offer);
     Ok(message)
 }
 
 /// Writes an OPEN without parameters at the front, and answers how many octets it has.
-fn put_open(out: &mut [u8], offer: &OpenBody) -> usize
-    requires { 29 ≤ length out.old }
+fn put_open<R: Room>(out: &mut R, offer: &OpenBody) -> usize
+    requires place { R.is_place out.old 0 }
+    requires room { 29 ≤ R.size out.old }
     ensures count { result ≡ 29 }
-    ensures octets { take result out.new ≡ open_octets (fields_of offer.now) }
-    ensures room { length out.new ≡ length out.old }
+    ensures octets { take result (R.octets out.new) ≡ open_octets (fields_of offer.now) }
+    ensures place { R.is_place out.new result }
 {
     let at = put_header(out, OPEN, LEAST_OPEN);
-    let at = put(out, at, &[VERSION]);
-    let at = put(out, at, &offer.as_number.to_be_bytes());
-    let at = put(out, at, &offer.hold.to_be_bytes());
-    let at = put(out, at, &offer.id.0.to_be_bytes());
-    put(out, at, &[0])
+    let at = out.put(at, &[VERSION]);
+    let at = out.put(at, &offer.as_number.to_be_bytes());
+    let at = out.put(at, &offer.hold.to_be_bytes());
+    let at = out.put(at, &offer.id.0.to_be_bytes());
+    out.put(at, &[0])
 }
 
 /// What the body of an OPEN offers, not judged yet.

@@ -9,10 +9,11 @@ ghost use Rattle.bgp_fault.specs.Faults.{data_octets};
 ghost use Rattle.bgp_msg.specs.Faults.{malformed_sections, malformed_prefix};
 
 use crate::header::{MOST_OCTETS, UPDATE};
-use crate::put::{put, put_header};
+use crate::put::put_header;
 use bgp_fault::{
     Data, Fault, INVALID_NETWORK_FIELD, MALFORMED_ATTRIBUTE_LIST, UPDATE_MESSAGE_ERROR,
 };
+use octet_room::Room;
 use rcp_base::{NoMemory, Prefix};
 use std::alloc::Global;
 
@@ -126,7 +127,7 @@ pub fn update_message(
     let Some(size) = size_of(withdrawn, attrs, nlri) else {
         unreachable!()
     };
-    let mut message = vec![in alloc; 0; size.whole]?;
+    let mut message = Vec::with_capacity(alloc, size.whole)?;
     put_update(&mut message, size, withdrawn, attrs, nlri);
     Ok(message)
 }
@@ -161,19 +162,20 @@ fn size_of(withdrawn: &[Prefix], attrs: &[u8], nlri: &[Prefix]) -> Option<Size>
 }
 
 /// Writes the UPDATE of these sections, which has this size, at the front.
-fn put_update(out: &mut [u8], size: Size, withdrawn: &[Prefix], attrs: &[u8], nlri: &[Prefix])
+fn put_update<R: Room>(out: &mut R, size: Size, withdrawn: &[Prefix], attrs: &[u8], nlri: &[Prefix])
     requires withdrawn { size.withdrawn ≡ length (flat_map prefix_octets withdrawn.now) }
     requires whole { size.whole ≡ 23 + size.withdrawn + length attrs.now + length (flat_map prefix_octets nlri.now) }
     requires short { size.whole ≤ 4096 }
-    requires room { size.whole ≤ length out.old }
-    ensures octets { take size.whole out.new ≡ update_octets withdrawn.now attrs.now nlri.now }
-    ensures room { length out.new ≡ length out.old }
+    requires place { R.is_place out.old 0 }
+    requires room { size.whole ≤ R.size out.old }
+    ensures octets { take size.whole (R.octets out.new) ≡ update_octets withdrawn.now attrs.now nlri.now }
+    ensures place { R.is_place out.new size.whole }
 {
     let at = put_header(out, UPDATE, size.whole as u16);
-    let at = put(out, at, &(size.withdrawn as u16).to_be_bytes());
+    let at = out.put(at, &(size.withdrawn as u16).to_be_bytes());
     let at = put_section(out, at, withdrawn);
-    let at = put(out, at, &(attrs.len() as u16).to_be_bytes());
-    let at = put(out, at, attrs);
+    let at = out.put(at, &(attrs.len() as u16).to_be_bytes());
+    let at = out.put(at, attrs);
     put_section(out, at, nlri);
 }
 
@@ -200,16 +202,18 @@ fn section_len(prefixes: &[Prefix]) -> Option<usize>
 }
 
 /// Writes the prefixes after the first `at` octets, and answers where they end.
-fn put_section(out: &mut [u8], mut at: usize, prefixes: &[Prefix]) -> usize
-    requires { at + length (flat_map prefix_octets prefixes.now) ≤ length out.old }
+fn put_section<R: Room>(out: &mut R, mut at: usize, prefixes: &[Prefix]) -> usize
+    requires place { R.is_place out.old at }
+    requires room { at + length (flat_map prefix_octets prefixes.now) ≤ R.size out.old }
     ensures end { result ≡ at + length (flat_map prefix_octets prefixes.now) }
-    ensures octets { take result out.new ≡ take at out.old ++ flat_map prefix_octets prefixes.now }
-    ensures room { length out.new ≡ length out.old }
+    ensures octets { take result (R.octets out.new) ≡ take at (R.octets out.old) ++ flat_map prefix_octets prefixes.now }
+    ensures place { R.is_place out.new result }
+    ensures size { R.size out.old ≤ R.size out.new }
 {
     for prefix in prefixes {
         let mut octets = [0; 5];
         let count = prefix.write_octets(&mut octets);
-        at = put(out, at, &octets[..count]);
+        at = out.put(at, &octets[..count]);
     }
     at
 }

@@ -6,7 +6,7 @@ ghost use Rattle.feed_make.specs.Routes.{group_place, first_of, second_of, third
 use crate::draws::Draws;
 use crate::links::ROUTERS;
 use crate::network::id_of;
-use bgp_msg::write_update;
+use bgp_msg::update_message;
 use rcp_base::{NoMemory, Prefix};
 use std::alloc::Global;
 
@@ -42,11 +42,8 @@ pub fn announcement(
 {
     let attrs = attributes(draws, group, router);
     let prefixes = prefixes(alloc, group)?;
-    let mut out = [0; 4096];
-    match write_update(&[], &attrs, &prefixes, &mut out) {
-        Some(len) => Ok(Vec::from_slice(alloc, &out[..len])?),
-        None => unreachable!(),
-    }
+    let message = update_message(alloc, &[], &attrs, &prefixes)?;
+    Ok(message)
 }
 
 /// The attributes of a route of a group (RFC 4271 section 4.3, RFC 1997), with five drawn numbers.

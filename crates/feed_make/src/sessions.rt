@@ -1,11 +1,9 @@
-//! The messages by which a session comes up.
+//! The message by which a session comes up.
 
-ghost use Rattle.std.specs.Prelude.{◌≡◌, ◌<◌, [], IfOk};
-ghost use Rattle.rcp_model.specs.Messages.{message_octets};
+ghost use Rattle.std.specs.Prelude.{◌≡◌, ◌<◌, IfOk};
 ghost use Rattle.feed_make.specs.Feeds.{open_message};
 
 use crate::network::id_of;
-use bgp_msg::write_keepalive;
 use rcp_base::NoMemory;
 use std::alloc::Global;
 
@@ -20,13 +18,4 @@ pub fn open_message(alloc: Global, router: u16) -> Result<Vec<u8>, NoMemory>
         4, 253, 232, 0, 90, i0, i1, i2, i3, 8, 2, 6, 1, 4, 0, 1, 0, 1,
     ];
     Ok(Vec::from_slice(alloc, &message)?)
-}
-
-/// A KEEPALIVE (RFC 4271 section 4.4).
-pub fn keepalive_message(alloc: Global) -> Result<Vec<u8>, NoMemory>
-    ensures { IfOk result (λ message. message.items ≡ message_octets 4 []) }
-{
-    let mut out = [0; 4096];
-    let len = write_keepalive(&mut out);
-    Ok(Vec::from_slice(alloc, &out[..len])?)
 }

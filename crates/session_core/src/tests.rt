@@ -90,7 +90,7 @@ fn linked(alloc: Global) -> Result<Roster, Fail> {
     if text.len() > 65536 {
         return Err("a short text".into());
     }
-    Ok(read(alloc, text).map_err(|_| "a roster")?)
+    Ok(read(alloc, text)?)
 }
 
 // A session with the first router of the roster that is established from its beginning.
@@ -98,7 +98,7 @@ fn established(alloc: Global, roster: &Roster) -> Result<(Session, Actions), Fai
     if roster.len() < 1 {
         return Err("a router".into());
     }
-    Ok(Session::established(alloc, roster, Slot(0)).map_err(|_| "memory")?)
+    Ok(Session::established(alloc, roster, Slot(0))?)
 }
 
 // What comes does this at a time.
@@ -118,7 +118,7 @@ fn answer(
         Input::Seat(free) => session.seated(roster, free, now),
         Input::Time(now) => session.clock(now),
     };
-    Ok(actions.map_err(|_| "memory")?)
+    Ok(actions?)
 }
 
 // All that comes, one after another.
@@ -144,7 +144,7 @@ fn answer_all(
 fn a_connection_begins_with_an_open(rt: HostRuntime) -> Result<(), Fail> {
     let alloc = rt.alloc();
     let roster = linked(alloc)?;
-    let (_, actions) = Session::open(alloc, &roster, 7).map_err(|_| "memory")?;
+    let (_, actions) = Session::open(alloc, &roster, 7)?;
     let mut log = Log::new(alloc);
     log.add(&actions)?;
     assert_eq!(rt; log.sent.as_slice(), OWN_OPEN);

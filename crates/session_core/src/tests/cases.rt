@@ -476,7 +476,7 @@ fn run(alloc: Global, case: &Case) -> Result<Log, Fail> {
     let (mut session, _) = if case.established {
         established(alloc, &roster)?
     } else {
-        Session::open(alloc, &roster, 0).map_err(|_| "memory")?
+        Session::open(alloc, &roster, 0)?
     };
     let mut log = Log::new(alloc);
     answer_all(alloc, &mut session, &roster, case.inputs, &mut log)?;

@@ -17,13 +17,13 @@ fn stream(alloc: Global) -> Result<Vec<u8>, Fail> {
 
 // The octets come in pieces of so many, and the seat is free.
 fn hear(alloc: Global, roster: &Roster, octets: &[u8], count: usize) -> Result<Log, Fail> {
-    let (mut session, _) = Session::open(alloc, roster, 0).map_err(|_| "memory")?;
+    let (mut session, _) = Session::open(alloc, roster, 0)?;
     let mut log = Log::new(alloc);
     for piece in octets.chunks(count.max(1)) {
-        let actions = session.bytes(roster, piece, 0).map_err(|_| "memory")?;
+        let actions = session.bytes(roster, piece, 0)?;
         log.add(&actions)?;
     }
-    let actions = session.seated(roster, true, 0).map_err(|_| "memory")?;
+    let actions = session.seated(roster, true, 0)?;
     log.add(&actions)?;
     Ok(log)
 }
@@ -62,7 +62,7 @@ fn a_long_piece_is_read_to_its_end(rt: HostRuntime) -> Result<(), Fail> {
         octets.extend_from_slice(ANNOUNCEMENT)?;
     }
     assert_eq!(rt; octets.len(), 20800);
-    let actions = session.bytes(&roster, &octets, 0).map_err(|_| "memory")?;
+    let actions = session.bytes(&roster, &octets, 0)?;
     assert_eq!(rt; actions.events.len(), 400);
     Ok(())
 }

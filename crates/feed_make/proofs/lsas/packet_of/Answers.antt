@@ -1,5 +1,4 @@
-use Rattle.std.proofs.Common.{ℕ, List, ◌++◌, get_or, sym, ap, ◌∙◌}
-use Rattle.rcp_model.specs.LinkState.{RouterLsa}
+use Rattle.std.proofs.Common.{◌++◌, sym, ◌∙◌}
 use Rattle.feed_make.specs.Checksums.{lsa_octets}
 use Rattle.feed_make.proofs.Lengths.{lsas-more}
 use Rattle.feed_make.proofs.lsas.packet_of.Goals as goal

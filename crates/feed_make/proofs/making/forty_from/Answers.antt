@@ -1,4 +1,4 @@
-use Rattle.std.proofs.Common.{ℕ, ◌+◌, ◌<◌, ap, ◌∙◌, arith}
+use Rattle.std.proofs.Common.{◌+◌, ap, ◌∙◌, arith}
 use Rattle.feed_make.specs.Numbers.{numbers_from}
 use Rattle.feed_make.proofs.Ranges.{filled_by_all, numbers-shift}
 use Rattle.feed_make.proofs.making.forty_from.Goals as goal

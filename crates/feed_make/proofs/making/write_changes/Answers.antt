@@ -1,4 +1,4 @@
-use Rattle.std.proofs.Common.{◌≡◌, ℕ, suc, ◌+◌, ◌<◌, ◌^◌, List, [], ◌∷◌, ◌++◌, length, map, refl, sym, ap, subst, ◌∙◌, add-one, append-nil, arith}
+use Rattle.std.proofs.Common.{◌≡◌, ℕ, suc, ◌+◌, ◌<◌, List, [], ◌∷◌, ◌++◌, length, map, refl, sym, ap, subst, ◌∙◌, add-one, append-nil, arith}
 use Rattle.std.specs.Prelude.{All}
 use Rattle.std.specs.List.{flat_map, concat}
 use Rattle.std.proofs.lemmas.List.Elements.{All-from_recursion}
@@ -6,7 +6,6 @@ use Rattle.std.proofs.lemmas.Result.{err_from_is_err_and}
 use Rattle.outside.specs.Told.{behind}
 use Rattle.rcp_base.specs.Feed.{record_octets}
 use Rattle.feed_make.specs.declared.refusal.MakeRefusal.TheVariants.{NoMemory}
-use Rattle.feed_make.specs.Draws.{DrawsOf}
 use Rattle.feed_make.specs.Numbers.{numbers_from}
 use Rattle.feed_make.specs.Networks.{NetworkOf, change_place, changed_link}
 use Rattle.feed_make.specs.Feeds.{octets_of, drain, lsas, packet_octets, change_packet, changes}

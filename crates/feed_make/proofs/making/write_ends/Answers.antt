@@ -1,9 +1,9 @@
-use Rattle.std.proofs.Common.{◌≡◌, ℕ, List, [], ◌∷◌, ◌++◌, map, refl, sym, ap, subst, ◌∙◌, append-nil, arith}
+use Rattle.std.proofs.Common.{◌≡◌, ℕ, List, [], ◌∷◌, ◌++◌, map, sym, ap, subst, ◌∙◌, append-nil, arith}
 use Rattle.std.specs.List.{flat_map}
 use Rattle.std.proofs.lemmas.Result.{err_from_is_err_and}
 use Rattle.outside.specs.Told.{behind}
 use Rattle.rcp_base.specs.declared.kinds.Kind.TheVariants.{Finish}
-use Rattle.rcp_base.specs.Feed.{FeedRecord, record_octets}
+use Rattle.rcp_base.specs.Feed.{record_octets}
 use Rattle.feed_make.specs.Numbers.{numbers_from}
 use Rattle.feed_make.specs.Feeds.{item, octets_of, drain, end_of, ends}
 use Rattle.feed_make.specs.Writes.{Writes, WritesPart}

@@ -1,13 +1,12 @@
-use Rattle.std.proofs.Common.{◌≡◌, ℕ, ◌+◌, ◌*◌, ◌<◌, ◌^◌, List, length, refl, sym, ap, subst, ◌∙◌, arith}
+use Rattle.std.proofs.Common.{◌≡◌, ℕ, ◌*◌, ◌<◌, List, length, refl, sym, ap, subst, ◌∙◌, arith}
 use Rattle.std.specs.Prelude.{All}
 use Rattle.std.specs.List.{flat_map, concat}
 use Rattle.std.proofs.lemmas.Result.{err_from_is_err_and}
 use Rattle.outside.specs.Told.{behind}
-use Rattle.rcp_base.specs.declared.kinds.Kind.TheVariants.{Links}
 use Rattle.rcp_base.specs.Feed.{record_octets}
 use Rattle.feed_make.specs.declared.refusal.MakeRefusal.TheVariants.{NoMemory}
 use Rattle.feed_make.specs.Numbers.{numbers_from}
-use Rattle.feed_make.specs.Feeds.{item, octets_of, lsas, packet_octets, first_packet, packets}
+use Rattle.feed_make.specs.Feeds.{octets_of, lsas, packet_octets, first_packet, packets}
 use Rattle.feed_make.specs.Writes.{WritesPart}
 use Rattle.feed_make.proofs.Ranges.{flat_map-map, length-numbers, numbers-below}
 use Rattle.feed_make.proofs.Lengths.{forty_short, packet_length}

@@ -64,4 +64,4 @@ returns-clause-octets g c =
     (then_writes (opened router) (kept router ++ []) _ _ _ c.write_record-3.result
     (rw (c.connection_of-connection.ensures, c.in_ok-open.ensures) at c.in_ok-write_record-2.ensures.octets)
     (subst (λ (o : List ℕ). Writes o (g.K.Sink.taken c.write_record-2.new.sink) (g.K.Sink.taken c.write_record-3.new.sink) c.write_record-3.result) (sym (append-nil (kept router)))
-    (rw (c.connection_of-connection.ensures, c.in_ok-keepalive.ensures) at c.write_record-3.ensures.octets)))
+    (rw (c.connection_of-connection.ensures, c.in_ok-keepalive.ensures.octets) at c.write_record-3.ensures.octets)))

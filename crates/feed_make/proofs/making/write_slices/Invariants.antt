@@ -2,7 +2,6 @@
 use Rattle.std.proofs.Common.{◌≡◌}
 use Rattle.std.specs.List.{flat_map}
 use Rattle.outside.specs.Told.{NeverFalls, behind}
-use Rattle.rcp_base.specs.Feed.{record_octets}
 use Rattle.feed_make.specs.Numbers.{numbers_from}
 use Rattle.feed_make.specs.Feeds.{octets_of, slices_of}
 use Rattle.feed_make.proofs.making.write_slices.Given as goal

@@ -1,21 +1,21 @@
-use Rattle.std.proofs.Common.{◌≡◌, ℕ, List, [], ◌≤◌, length, true, false, sym, ap, ◌∙◌, arith}
-use Rattle.rcp_base.specs.IpPrefix.{IpPrefix}
+use Rattle.std.proofs.Common.{◌≡◌, [], length, ap, ◌∙◌, arith}
 use Rattle.rcp_model.specs.Updates.{update_octets}
 use Rattle.feed_make.specs.Routes.{attributes, prefixes}
 use Rattle.feed_make.proofs.Lengths.{short_announcement}
 use Rattle.feed_make.proofs.routes.announcement.Goals as goal
+use Rattle.feed_make.proofs.routes.announcement.Goals.{After-deref}
 
-pub unreachable-requires : goal.unreachable-requires
-unreachable-requires c =
-    let d = c.args.draws.now in
-    let attrs = c.attributes-attrs.ensures.attributes in
-    let list = c.deref.ensures.value ∙ c.in_ok-prefixes.ensures in
-    let octets : update_octets [] c.attributes-attrs.result c.deref.result.now ≡ update_octets [] (attributes d.number d.drawn c.args.group c.args.router) (prefixes c.args.group) = λ i. update_octets [] (attrs i) (list i) in
-    let short : length (update_octets [] c.attributes-attrs.result c.deref.result.now) ≤ 4096 = omega (arith, ap length octets, short_announcement d.number d.drawn c.args.group c.args.router) in
-    let some = c.in-None.ensures.fits.1 short in
-    cc
+-- the UPDATE of the attributes and prefixes of the group
+octets : (c : After-deref) → update_octets [] c.attributes-attrs.result c.deref.result.now ≡ update_octets [] (attributes c.args.draws.now.number c.args.draws.now.drawn c.args.group c.args.router) (prefixes c.args.group)
+octets c = λ i. update_octets [] (c.attributes-attrs.ensures.attributes i) ((c.deref.ensures.value ∙ c.in_ok-prefixes.ensures) i)
+
+pub update_message-requires : goal.update_message-requires
+update_message-requires c =
+    omega (arith, ap length (octets (goal.at.update_message-requires c).After-deref), short_announcement c.args.draws.now.number c.args.draws.now.drawn c.args.group c.args.router)
 
 pub returns-clause-message : goal.returns-clause-message
-returns-clause-message c =
-    c.in_ok-from_slice-in-Some.ensures.items ∙ c.in-Some.ensures.octets
-    ∙ (λ i. update_octets [] (c.attributes-attrs.ensures.attributes i) ((c.deref.ensures.value ∙ c.in_ok-prefixes.ensures) i))
+returns-clause-message c = c.in_ok-message.ensures ∙ octets (goal.at.returns-clause-message c).After-deref
+
+pub returns-clause-short : goal.returns-clause-short
+returns-clause-short c =
+    omega (arith, ap length (c.in_ok-message.ensures ∙ octets (goal.at.returns-clause-short c).After-deref), short_announcement c.args.draws.now.number c.args.draws.now.drawn c.args.group c.args.router)

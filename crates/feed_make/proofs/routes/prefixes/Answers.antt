@@ -1,6 +1,4 @@
 use Rattle.std.proofs.Common.{ℕ, List, ◌∷◌, [], ◌++◌, map, sym, ap, ◌∙◌, arith}
-use Rattle.rcp_base.specs.IpPrefix.{IpPrefix}
-use Rattle.feed_make.specs.Numbers.{numbers_from}
 use Rattle.feed_make.specs.Routes.{group_prefix}
 use Rattle.feed_make.proofs.Ranges.{numbers-none, map-numbers_more}
 use Rattle.feed_make.proofs.routes.prefixes.Goals as goal

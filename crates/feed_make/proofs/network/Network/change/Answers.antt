@@ -1,4 +1,4 @@
-use Rattle.std.proofs.Common.{◌≡◌, ℕ, ◌+◌, ◌<◌, List, [], ◌∷◌, length, sym, ap, ◌∙◌, arith, rules}
+use Rattle.std.proofs.Common.{◌≡◌, ℕ, ◌+◌, ◌<◌, [], ◌∷◌, length, sym, ap, ◌∙◌, arith, rules}
 use Rattle.std.specs.Vec.{vec_len}
 use Rattle.feed_make.specs.Networks.{Link, NetworkOf, changed_link}
 use Rattle.feed_make.proofs.Networks.{length-links}

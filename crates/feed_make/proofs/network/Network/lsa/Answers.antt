@@ -1,10 +1,10 @@
-use Rattle.std.proofs.Common.{◌≡◌, ℕ, List, ◌≤◌, ◌<◌, length, get_or, sym, ap, ◌∙◌, arith, rules}
+use Rattle.std.proofs.Common.{ℕ, List, length, get_or, ap, ◌∙◌, arith, rules}
 use Rattle.std.specs.Prelude.{ℤ, pos, ◌+ℤ◌}
 use mir.Syntax.{w32}
 use mir.Val.{SFits}
 use Rattle.std.proofs.lemmas.Int.{to_z-of_z}
 use Rattle.rcp_model.specs.LinkState.{RouterLink, RouterLsa}
-use Rattle.feed_make.specs.Networks.{Link, NetworkOf, content_of, first_sequence, links_after, lsa_after}
+use Rattle.feed_make.specs.Networks.{NetworkOf, content_of, first_sequence, lsa_after}
 use Rattle.feed_make.proofs.Networks.{content-few, length-links, rises-at}
 use Rattle.feed_make.proofs.network.Network.lsa.Goals as goal
 
