@@ -1,7 +1,7 @@
 //! What the comments of lines say.
 
-use crate::messages::split_message;
 use crate::records::Raw;
+use message_text::split_message;
 use std::alloc::AllocError;
 
 /// Whether the lines that are shown have comments.

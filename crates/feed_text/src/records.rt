@@ -2,11 +2,9 @@
 //! octets.
 
 use crate::comments::{Comments, push_comment};
-use crate::messages::push_messages;
-use crate::numbers::{push_address, push_number, push_number_word};
-use crate::octets::push_hex;
 use crate::outputs::{push_end, push_summary, split_count};
 use crate::roster::push_roster;
+use message_text::{push_address, push_hex, push_messages, push_number, push_number_word};
 use std::alloc::AllocError;
 
 /// A record of a feed or an output, as it lies in the input.

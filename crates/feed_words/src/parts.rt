@@ -1,14 +1,12 @@
 //! The parts of a `bgp` or an `ospf` line.
 
 ghost use Rattle.std.specs.Prelude.{◌≡◌, ◌^◌, [], codes, bytes_eq};
-ghost use Rattle.feed_words.specs.Words.{words_of};
-ghost use Rattle.feed_words.specs.Reading.{Gives};
+ghost use Rattle.line_words.specs.Words.{words_of};
+ghost use Rattle.line_words.specs.Reading.{Gives};
 ghost use Rattle.feed_words.specs.Parts.{part_of, parts_within, parts};
 
-use crate::bgp::bgp_part;
-use crate::fault::{Stop, Why};
-use crate::hex::octets_part;
-use crate::words::{fault, split_word};
+use bgp_words::bgp_part;
+use line_words::{Stop, Why, fault, octets_part, split_word};
 
 /// Whose messages a line has.
 #[derive(Clone, Copy)]

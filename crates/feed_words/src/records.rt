@@ -1,17 +1,16 @@
 //! The record that the words of a line stand for.
 
 ghost use Rattle.std.specs.Prelude.{◌≡◌, ◌≤◌, ◌^◌, [], ◌∷◌, ◌++◌, length, IfOk, OnOk, IsSome, ℕ, List, Option, Some, None, Result, Ok, Err};
-ghost use Rattle.feed_words.specs.Words.{words_of};
-ghost use Rattle.feed_words.specs.Reading.{Gives};
+ghost use Rattle.line_words.specs.Words.{words_of};
+ghost use Rattle.line_words.specs.Reading.{Gives};
 ghost use Rattle.feed_words.specs.Heads.{GivesRecord, GivesPiece, piece_octets};
 ghost use Rattle.feed_words.specs.Records.{established, connect, time, work, bare, ospf_lost, reason, close, summary, any_record, bgp, ospf, rare_record, platform_record, record_of, fitting_record, words_octets};
 
-use crate::fault::{Stop, Why};
-use crate::fields::{code_word, u64_field};
-use crate::hex::{hex_word, octet_word};
 use crate::parts::{Protocol, parts};
-use crate::values::{address_word, u16_word, u32_word, u64_word};
-use crate::words::{ended, fault, split_word};
+use line_words::{
+    Stop, Why, address_word, code_word, ended, fault, hex_word, octet_word, split_word, u16_word,
+    u32_word, u64_field, u64_word,
+};
 use std::alloc::AllocError;
 
 /// The fields of a record before its body.
