@@ -10,8 +10,8 @@ use crate::attribute_values::Prefix;
 use crate::attributes::Attribute;
 use crate::capabilities::Parameter;
 use line_words::{
-    Stop, Why, address_field, code_word, fault, hex_word, keyed, next_word, octets_part,
-    optional_hex, optional_u8, push_list, push_words, u8_word, u16_field,
+    Stop, Why, address_field, code_word, fault, hex_word, keyed, next_word, number_field,
+    number_word, octets_part, optional_hex, optional_number, push_list, push_words,
 };
 use std::alloc::AllocError;
 
@@ -110,10 +110,10 @@ fn open_fields<'a>(words: &'a [u8], body: &mut Vec<u8>) -> Result<&'a [u8], Stop
     requires { body.old.items ≡ [] }
     ensures { Gives (λ rest. (body.new.items, words_of rest.now)) result (open_fields (words_of words.now)) }
 {
-    let (number, words) = u16_field(words, b"as=")?;
-    let (hold, words) = u16_field(words, b"hold=")?;
+    let (number, words) = number_field::<u16>(words, b"as=")?;
+    let (hold, words) = number_field::<u16>(words, b"hold=")?;
     let (id, words) = address_field(words, b"id=")?;
-    let (version, words) = optional_u8(words, b"version=", 4)?;
+    let (version, words) = optional_number::<u8>(words, b"version=", 4)?;
     body.push(version)?;
     body.extend_from_slice(&number.to_be_bytes())?;
     body.extend_from_slice(&hold.to_be_bytes())?;
@@ -181,7 +181,7 @@ fn notification<'a>(words: &'a [u8], out: &mut Vec<u8>) -> Result<&'a [u8], Stop
 fn any_message<'a>(words: &'a [u8], out: &mut Vec<u8>) -> Result<&'a [u8], Stop>
     ensures { Gives (λ rest. (out.new.items, words_of rest.now)) result (any_message out.old.items (words_of words.now)) }
 {
-    let (kind, words) = u8_word(words)?;
+    let (kind, words) = number_word::<u8>(words)?;
     let mut body = Vec::new(*out.allocator());
     let words = hex_word(words, &mut body)?;
     message_onto(out, kind, &body, words)

@@ -6,7 +6,8 @@ ghost use Rattle.line_words.specs.Reading.{Gives};
 ghost use Rattle.feed_words.specs.Parts.{part_of, parts_within, parts};
 
 use bgp_words::bgp_part;
-use line_words::{Stop, Why, fault, octets_part, split_word};
+use line_words::{Stop, Why, fault, split_word};
+use ospf_words::ospf_part;
 
 /// Whose messages a line has.
 #[derive(Clone, Copy)]
@@ -25,7 +26,7 @@ fn part<'a>(protocol: Protocol, words: &'a [u8], body: &mut Vec<u8>) -> Result<&
 {
     match protocol {
         Protocol::Bgp => bgp_part(words, body),
-        Protocol::Ospf => octets_part(words, body),
+        Protocol::Ospf => ospf_part(words, body),
     }
 }
 

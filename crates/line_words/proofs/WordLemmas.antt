@@ -1,11 +1,12 @@
 -- The words of a line, taken from the front.
-use Rattle.std.proofs.Common.{◌≡◌, ◌≢◌, ℕ, zero, suc, ◌+◌, ◌<◌, ◌≤◌, Bool, true, false, cond, not, ltb, eqb, All, List, [], ◌∷◌, length, take, drop, get_or, Some, None, refl, sym, ap, ◌∙◌, arith, inl, inr, add-one, drop-cons}
+use Rattle.std.proofs.Common.{◌≡◌, ◌≢◌, ℕ, zero, suc, ◌+◌, ◌<◌, ◌≤◌, Bool, true, false, cond, not, ltb, eqb, All, List, [], ◌∷◌, length, take, drop, get_or, Option, Some, None, refl, sym, ap, ◌∙◌, arith, inl, inr, add-one, drop-cons}
 use Rattle.std.specs.List.{filter, position, position_or_len, slice_split, onto_first}
-use Rattle.std.proofs.lemmas.Bool.{ltb-true, lt-ltb, cases_lt}
+use Rattle.std.proofs.lemmas.Bool.{ltb-true, lt-ltb, le-ltb, cases_lt}
 use Rattle.std.proofs.lemmas.List.{length-drop, get_or-drop}
 use Rattle.std.proofs.lemmas.List.Splits.{slice_split-cons_yes, slice_split-cons_no, slice_split_none, slice_split_first}
 use Rattle.std.proofs.lemmas.List.Sums.{fails_before_first, passes_at_first}
 use Rattle.std.proofs.lemmas.Option.{cond_some, none-some}
+use Rattle.memchr.specs.Find.{IsFirstByte}
 use Rattle.line_words.specs.Words.{is_blank, is_some_word, before_comment, words_of}
 
 -- ---- the first place that passes a test
@@ -21,6 +22,25 @@ none_passes p xs e = elim (cases_lt (position_or_len p xs) (length xs)) [
   | inl lt ↦ absurd (none-some (position_or_len p xs) (sym e ∙ rw (lt-ltb _ _ lt) refl))
   | inr le ↦ le
 ]
+
+differ : true ≡ false → ⊥
+differ e = cc
+
+-- the place that a search gives
+pub searched : (p : ℕ → Bool) (xs : List ℕ) (r : Option ℕ) → IsFirstByte p xs r → r ≡ position p xs
+searched p xs None nowhere = elim (cases_lt (position_or_len p xs) (length xs)) [
+  | inl lt ↦ absurd (nowhere (position_or_len p xs) (omega arith) lt (passes_at_first p xs 0 lt))
+  | inr le ↦ rw (le-ltb _ _ le) refl
+]
+searched p xs (Some k) found =
+    let first : position_or_len p xs ≡ k = elim (cases_lt (position_or_len p xs) k) [
+      | inl lt ↦ absurd (found.0.before (position_or_len p xs) (omega arith) lt (passes_at_first p xs 0 (omega (arith, found.0.high))))
+      | inr le ↦ elim (cases_lt k (position_or_len p xs)) [
+        | inl lt ↦ absurd (differ (sym found.1 ∙ fails_before_first p xs k 0 lt))
+        | inr ge ↦ omega arith
+      ]
+    ] in
+    rw (first, lt-ltb k (length xs) found.0.high) refl
 
 -- ---- blanks before a word
 

@@ -1,17 +1,17 @@
 //! Words with a key before their value.
 
 ghost use Rattle.std.specs.Prelude.{◌≡◌, ◌++◌, List, ℕ, Option, Some, None, MatchOption, IfOk, if◌then◌else◌};
-ghost use Rattle.rcp_base.specs.Text.{number_of, address_of};
+ghost use Rattle.rcp_base.specs.Text.{address_of};
 ghost use Rattle.line_words.specs.Words.{words_of, hex_onto};
 ghost use Rattle.line_words.specs.Reading.{Gives, value_word};
-ghost use Rattle.line_words.specs.Fields.{keyed, field, optional_field, u8_of, u16_of, u32_of, sized_hex_onto, code_onto};
+ghost use Rattle.line_words.specs.Fields.{keyed, field, optional_field, sized_hex_onto, code_onto};
 
 use crate::hex::push_hex;
 use crate::lists::halves;
 use crate::stop::{Stop, Why};
-use crate::values::{u8_in, u16_in, u32_in};
+use crate::values::{Number, u8_in};
 use crate::words::{fault, next_word, split_word};
-use rcp_base::{read_addr, read_number};
+use rcp_base::read_addr;
 use std::alloc::AllocError;
 
 /// The value of the next word, where it has this key, and the words after it.
@@ -23,14 +23,31 @@ pub fn keyed<'a>(words: &'a [u8], key: &[u8]) -> Option<(&'a [u8], &'a [u8])>
     Some((value, rest))
 }
 
-/// A number below 2^16 with a key.
-pub fn u16_field<'a>(words: &'a [u8], key: &[u8]) -> Result<(u16, &'a [u8]), Stop>
-    ensures { Gives (λ x. (x.0, words_of x.1.now)) result (field key.now u16_of (words_of words.now)) }
+/// A number with a key.
+pub fn number_field<'a, N: Number>(words: &'a [u8], key: &[u8]) -> Result<(N, &'a [u8]), Stop>
+    ensures { Gives (λ x. (x.0, words_of x.1.now)) result (field key.now N.of (words_of words.now)) }
 {
     let Some((text, rest)) = keyed(words, key) else {
         return Err(fault(words, Why::Missing));
     };
-    match u16_in(text) {
+    match N::read(text) {
+        Some(number) => Ok((number, rest)),
+        None => Err(fault(words, Why::Value)),
+    }
+}
+
+/// A number with a key, or this number.
+pub fn optional_number<'a, N: Number>(
+    words: &'a [u8],
+    key: &[u8],
+    default: N,
+) -> Result<(N, &'a [u8]), Stop>
+    ensures { Gives (λ x. (x.0, words_of x.1.now)) result (optional_field key.now N.of default (words_of words.now)) }
+{
+    let Some((text, rest)) = keyed(words, key) else {
+        return Ok((default, words));
+    };
+    match N::read(text) {
         Some(number) => Ok((number, rest)),
         None => Err(fault(words, Why::Value)),
     }
@@ -45,45 +62,6 @@ pub fn address_field<'a>(words: &'a [u8], key: &[u8]) -> Result<(u32, &'a [u8]),
     };
     match read_addr(text) {
         Some(address) => Ok((address.0, rest)),
-        None => Err(fault(words, Why::Value)),
-    }
-}
-
-/// A number below 2^8 with a key, or this number.
-pub fn optional_u8<'a>(words: &'a [u8], key: &[u8], default: u8) -> Result<(u8, &'a [u8]), Stop>
-    ensures { Gives (λ x. (x.0, words_of x.1.now)) result (optional_field key.now u8_of default (words_of words.now)) }
-{
-    let Some((text, rest)) = keyed(words, key) else {
-        return Ok((default, words));
-    };
-    match u8_in(text) {
-        Some(number) => Ok((number, rest)),
-        None => Err(fault(words, Why::Value)),
-    }
-}
-
-/// A number below 2^16 with a key, or this number.
-pub fn optional_u16<'a>(words: &'a [u8], key: &[u8], default: u16) -> Result<(u16, &'a [u8]), Stop>
-    ensures { Gives (λ x. (x.0, words_of x.1.now)) result (optional_field key.now u16_of default (words_of words.now)) }
-{
-    let Some((text, rest)) = keyed(words, key) else {
-        return Ok((default, words));
-    };
-    match u16_in(text) {
-        Some(number) => Ok((number, rest)),
-        None => Err(fault(words, Why::Value)),
-    }
-}
-
-/// A number below 2^32 with a key, or this number.
-pub fn optional_u32<'a>(words: &'a [u8], key: &[u8], default: u32) -> Result<(u32, &'a [u8]), Stop>
-    ensures { Gives (λ x. (x.0, words_of x.1.now)) result (optional_field key.now u32_of default (words_of words.now)) }
-{
-    let Some((text, rest)) = keyed(words, key) else {
-        return Ok((default, words));
-    };
-    match u32_in(text) {
-        Some(number) => Ok((number, rest)),
         None => Err(fault(words, Why::Value)),
     }
 }
@@ -197,29 +175,5 @@ pub fn code_word<'a>(words: &'a [u8], out: &mut Vec<u8>) -> Result<&'a [u8], Sto
         Ok(rest)
     } else {
         Err(fault(words, Why::Value))
-    }
-}
-
-/// A number below 2^64 with a key.
-pub fn u64_field<'a>(words: &'a [u8], key: &[u8]) -> Result<(u64, &'a [u8]), Stop>
-    ensures { Gives (λ x. (x.0, words_of x.1.now)) result (field key.now number_of (words_of words.now)) }
-{
-    let Some((text, rest)) = keyed(words, key) else {
-        return Err(fault(words, Why::Missing));
-    };
-    match read_number(text) {
-        Some(number) => Ok((number, rest)),
-        None => Err(fault(words, Why::Value)),
-    }
-}
-
-/// A number below 2^8.
-pub fn u8_word(words: &[u8]) -> Result<(u8, &[u8]), Stop>
-    ensures { Gives (λ x. (x.0, words_of x.1.now)) result (value_word u8_of (words_of words.now)) }
-{
-    let (word, rest) = next_word(words)?;
-    match u8_in(word) {
-        Some(number) => Ok((number, rest)),
-        None => Err(fault(words, Why::Value)),
     }
 }

@@ -7,6 +7,7 @@ ghost use Rattle.line_words.specs.Words.{words_of, is_blank, without_return};
 ghost use Rattle.line_words.specs.Reading.{Gives, next_word, ended};
 
 use crate::stop::{Stop, Why, WordFault};
+use memchr::memchr2;
 
 /// A line without a carriage return at its end.
 pub fn without_return(line: &[u8]) -> &[u8]
@@ -34,7 +35,7 @@ fn first_of_word(line: &[u8]) -> Option<usize>
 fn first_blank(line: &[u8]) -> Option<usize>
     ensures { result ≡ position is_blank line.now }
 {
-    line.iter().position(|c| is_blank(*c))
+    memchr2(b' ', b'\t', line)
 }
 
 /// The next word, and what stands after it. None where no word is left before a comment.

@@ -6,64 +6,54 @@ use crate::attributes::push_attributes;
 use crate::capabilities::{push_parameter, split_coded};
 use crate::hex::{push_hex, push_octets_word};
 use crate::numbers::{push_address, push_number};
+use crate::parts::Message;
 use std::alloc::AllocError;
 
 /// The octets before a message's body: a marker, a length and a type (RFC 4271 section 4.1).
 const HEADER: usize = 19;
 
-/// Appends the messages of a record's body as parts with `;` between them, and what stands in no whole message as octets.
-pub fn push_messages(text: &mut Vec<u8>, body: &[u8]) -> Result<(), AllocError> {
-    let mut rest = body;
-    let mut mark = b" ".as_slice();
-    while let Some((kind, message, more)) = split_message(rest) {
-        text.extend_from_slice(mark)?;
-        push_message(text, kind, message)?;
-        mark = b" ; ".as_slice();
-        rest = more;
-    }
-    if rest.is_empty() {
-        return Ok(());
-    }
-    text.extend_from_slice(mark)?;
-    text.extend_from_slice(b"octets ")?;
-    push_hex(text, rest)
+/// A BGP message.
+#[derive(Clone, Copy, Drop)]
+pub struct BgpMessage<'a> {
+    pub kind: u8,
+    pub body: &'a [u8],
 }
 
-/// The message in front: its type, its body, and the octets after it.
-pub fn split_message(octets: &[u8]) -> Option<(u8, &[u8], &[u8])>
-    ensures { IfSome result (λ found. length found.2.now < length octets.now) }
-{
-    if octets.len() < HEADER {
-        return None;
+impl<'a> Message<'a> for BgpMessage<'a> {
+    fn split(octets: &'a [u8]) -> Option<(BgpMessage<'a>, &'a [u8])> {
+        if octets.len() < HEADER {
+            return None;
+        }
+        let length = usize::from(u16::from_be_bytes([octets[16], octets[17]]));
+        if length < HEADER || octets.len() < length {
+            return None;
+        }
+        let (message, rest) = octets.split_at(length);
+        let (header, body) = message.split_at(HEADER);
+        if !has_marker(header) {
+            return None;
+        }
+        let kind = octets[18];
+        Some((BgpMessage { kind, body }, rest))
     }
-    let length = usize::from(u16::from_be_bytes([octets[16], octets[17]]));
-    if length < HEADER || octets.len() < length {
-        return None;
+
+    fn push(&self, text: &mut Vec<u8>) -> Result<(), AllocError> {
+        match (self.kind, self.body) {
+            (1, [version, a, b, c, d, e, f, g, h, count, rest @ ..]) => {
+                push_open(text, *version, [*a, *b, *c, *d, *e, *f, *g, *h])?;
+                push_parameters(text, *count, rest)
+            }
+            (2, body) => push_update(text, body),
+            (3, [code, subcode, data @ ..]) => push_notification(text, *code, *subcode, data),
+            (4, []) => text.extend_from_slice(b"keepalive"),
+            (kind, body) => push_any(text, kind, body),
+        }
     }
-    let (message, rest) = octets.split_at(length);
-    let (header, body) = message.split_at(HEADER);
-    if !has_marker(header) {
-        return None;
-    }
-    Some((octets[18], body, rest))
 }
 
 /// Whether a header begins with sixteen octets of ones.
 fn has_marker(header: &[u8]) -> bool {
     header.starts_with(&[0xff; 16])
-}
-
-fn push_message(text: &mut Vec<u8>, kind: u8, body: &[u8]) -> Result<(), AllocError> {
-    match (kind, body) {
-        (1, [version, a, b, c, d, e, f, g, h, count, rest @ ..]) => {
-            push_open(text, *version, [*a, *b, *c, *d, *e, *f, *g, *h])?;
-            push_parameters(text, *count, rest)
-        }
-        (2, _) => push_update(text, body),
-        (3, [code, subcode, data @ ..]) => push_notification(text, *code, *subcode, data),
-        (4, []) => text.extend_from_slice(b"keepalive"),
-        _ => push_any(text, kind, body),
-    }
 }
 
 /// A message whose body has no names.
