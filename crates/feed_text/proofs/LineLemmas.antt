@@ -2,7 +2,7 @@
 use Rattle.std.proofs.Common.{◌≡◌, ℕ, ◌+◌, List, [], ◌∷◌, ◌++◌, Option, Some, None, Result, Ok, Err, ap, subst, ◌∙◌}
 use Rattle.std.specs.Prelude.{IfSome}
 use Rattle.feed_words.specs.declared.fault.LineFault.{LineFault}
-use Rattle.feed_words.specs.Words.{lines_of}
+use Rattle.line_words.specs.Words.{lines_of}
 use Rattle.feed_text.specs.Lines.{numbered}
 use Rattle.feed_words.specs.Texts.{closed, line_gives, lines_give, with_front, whole, Reading, reading_of}
 

@@ -4,7 +4,7 @@ use Rattle.std.specs.Prelude.{IfSome}
 use Rattle.std.proofs.lemmas.List.{length-append, length-take, take-append-drop}
 use Rattle.outside.specs.Told.{in_front, behind, in_front-append, behind-append, in_front-nil, behind-nil}
 use Rattle.feed_words.specs.declared.fault.TextFault.{TextFault}
-use Rattle.feed_words.specs.Words.{lines_of}
+use Rattle.line_words.specs.Words.{lines_of}
 use Rattle.feed_words.specs.Texts.{closed, line_gives, lines_give, with_front, whole, Reading, reading_of}
 use Rattle.feed_words.specs.Joining.{EndsLine}
 use Rattle.feed_text.specs.Windows.{Held, IsEmptyRest}

@@ -9,10 +9,10 @@ use Rattle.std.proofs.lemmas.List.Sums.{fails_before_first, passes_at_first}
 use Rattle.outside.specs.Told.{in_front, behind, in_front-append}
 use Rattle.feed_words.specs.declared.fault.LineFault.{LineFault}
 use Rattle.feed_words.specs.declared.fault.TextFault.{TextFault}
-use Rattle.feed_words.specs.declared.fault.Why.TheVariants as reason
-use Rattle.feed_words.specs.Words.{lines_of, without_return}
+use Rattle.line_words.specs.declared.stop.Why.TheVariants as reason
+use Rattle.line_words.specs.Words.{lines_of, without_return}
 use Rattle.feed_words.specs.Texts.{closed, line_fault, line_without_return_gives, line_gives, lines_give, Reading}
-use Rattle.feed_words.proofs.WordLemmas.{first_some, none_passes}
+use Rattle.line_words.proofs.WordLemmas.{first_some, none_passes}
 use Rattle.feed_text.specs.Windows.{Held, IsEmptyRest}
 use Rattle.feed_text.specs.declared.writing.WriteFault.{WriteFault}
 use Rattle.feed_text.specs.declared.writing.WriteFault.TheVariants as fault

@@ -4,7 +4,7 @@ use Rattle.std.specs.List.{position}
 use Rattle.outside.specs.Told.{in_front, behind}
 use Rattle.feed_words.specs.declared.fault.LineFault.{LineFault}
 use Rattle.feed_words.specs.declared.fault.TextFault.{TextFault}
-use Rattle.feed_words.specs.Words.{lines_of}
+use Rattle.line_words.specs.Words.{lines_of}
 use Rattle.feed_words.specs.Texts.{closed, line_gives, lines_give}
 use Rattle.feed_text.specs.Windows.{IsEmptyRest}
 use Rattle.feed_text.specs.declared.writing.WriteFault.{WriteFault}

@@ -2,7 +2,7 @@
 
 ghost use Rattle.std.specs.Prelude.{◌≡◌, ◌<◌, ◌+◌, ◌^◌, ◌∷◌, ◌++◌, [], None, length, true, Ok, IfOk, IfSome, MatchOption, ◌==◌};
 ghost use Rattle.std.specs.List.{position};
-ghost use Rattle.feed_words.specs.Words.{lines_of};
+ghost use Rattle.line_words.specs.Words.{lines_of};
 ghost use Rattle.feed_words.specs.Texts.{closed, line_gives, reading_of, whole};
 
 use feed_words::{Encoder, LineStop};

@@ -1,7 +1,7 @@
 //! What the comments of lines say.
 
-use crate::messages::split_message;
 use crate::records::Raw;
+use message_text::{BgpMessage, Message};
 use std::alloc::AllocError;
 
 /// Whether the lines that are shown have comments.
@@ -26,8 +26,8 @@ fn comment_on(raw: Raw<'_>) -> Option<&'static [u8]> {
     match (raw.kind, raw.body) {
         (b'X', [_, code, subcode]) => name_of(*code, *subcode),
         (b'B', body) => {
-            let (kind, message, _) = split_message(body)?;
-            comment_on_message(kind, message)
+            let (message, _) = BgpMessage::split(body)?;
+            comment_on_message(message.kind, message.body)
         }
         _ => None,
     }

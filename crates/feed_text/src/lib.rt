@@ -18,12 +18,8 @@
 //! ```
 #![tactic(auto)]
 
-mod attributes;
-mod capabilities;
 mod checker;
 mod comments;
-mod messages;
-mod numbers;
 mod octets;
 mod outputs;
 mod printer;

@@ -1,6 +1,6 @@
 //! Records of an output in words.
 
-use crate::numbers::push_number;
+use message_text::push_number;
 use std::alloc::AllocError;
 
 /// Appends the reason of a connection's end, and the code and subcode of its NOTIFICATION.

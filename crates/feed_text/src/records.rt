@@ -2,11 +2,11 @@
 //! octets.
 
 use crate::comments::{Comments, push_comment};
-use crate::messages::push_messages;
-use crate::numbers::{push_address, push_number, push_number_word};
-use crate::octets::push_hex;
 use crate::outputs::{push_end, push_summary, split_count};
 use crate::roster::push_roster;
+use message_text::{
+    BgpMessage, OspfPacket, push_address, push_hex, push_number, push_number_word, push_parts,
+};
 use std::alloc::AllocError;
 
 /// A record of a feed or an output, as it lies in the input.
@@ -59,13 +59,13 @@ pub fn push_named(text: &mut Vec<u8>, raw: Raw<'_>, comments: Comments) -> Resul
         }
         (b'B', body) => {
             push_word_of(text, b"bgp ", raw.source)?;
-            push_messages(text, body)?;
+            push_parts::<BgpMessage>(text, body)?;
             push_shown_comment(text, raw, comments)?;
             end_line(text)
         }
         (b'L', body) => {
             text.extend_from_slice(b"ospf")?;
-            push_octets_part(text, body)?;
+            push_parts::<OspfPacket>(text, body)?;
             end_line(text)
         }
         (b'W', [a, b, c, d, e, f]) => {
@@ -105,15 +105,6 @@ fn push_count(text: &mut Vec<u8>, word: &[u8], body: &[u8]) -> Result<(), AllocE
         push_number(text, count)?;
     }
     end_line(text)
-}
-
-/// The part of any octets; none where there are none.
-fn push_octets_part(text: &mut Vec<u8>, octets: &[u8]) -> Result<(), AllocError> {
-    if octets.is_empty() {
-        return Ok(());
-    }
-    text.extend_from_slice(b" octets ")?;
-    push_hex(text, octets)
 }
 
 fn push_shown_comment(

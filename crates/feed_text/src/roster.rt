@@ -1,7 +1,7 @@
 //! The lines of a roster's text.
 
 use crate::checker::split_line;
-use crate::octets::push_pair;
+use message_text::push_pair;
 use std::alloc::AllocError;
 
 /// Appends `roster` and the lines of its text.

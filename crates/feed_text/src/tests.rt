@@ -21,7 +21,7 @@ fn shown(alloc: Global, octets: &[u8]) -> Result<(Vec<u8>, Result<(), ShowFault>
 }
 
 /// Lines as they are shown, and the octets of their records.
-const ROWS: [(&[u8], &[u8]); 14] = [
+const ROWS: [(&[u8], &[u8]); 18] = [
     (b"", b""),
     (b"roster\n", b"C\0\0\0\0\0\0\0\0"),
     (
@@ -40,6 +40,37 @@ const ROWS: [(&[u8], &[u8]); 14] = [
     (b"work 1 500\n", b"W\0\0\0\0\0\0\0\x06\0\x01\0\0\x01\xf4"),
     (b"drain\nend\n", b"D\0\0\0\0\0\0\0\0Z\0\0\0\0\0\0\0\0"),
     (b"ospf octets 0x0204\n", b"L\0\0\0\0\0\0\0\x02\x02\x04"),
+    (
+        b"ospf ls-update router=10.255.0.1 area=0.0.0.0 router-lsa age=1 id=10.0.0.1 sequence=\
+          0x80000001 point-to-point=10.0.0.2:10\n",
+        b"L\0\0\0\0\0\0\0@\x02\x04\0@\x0a\xff\0\x01\0\0\0\0\x83)\0\0\0\0\0\0\0\0\0\0\0\0\0\x01\
+          \0\x01\x02\x01\x0a\0\0\x01\x0a\0\0\x01\x80\0\0\x01\xceZ\0$\0\0\0\x01\x0a\0\0\x02\0\0\
+          \0\0\x01\0\0\x0a",
+    ),
+    (
+        b"ospf ls-update router=10.0.0.7 area=0.0.0.1 autype=1 authentication=0x73656372657400\
+          00 router-lsa age=642 options=0x22 id=10.0.0.1 sequence=0x80000a3f flags=0x03 point-\
+          to-point=10.0.0.2@192.0.2.1:10+0x05000007 stub=192.0.2.0@255.255.255.252:10 lsa 2 ag\
+          e=3 id=10.0.0.9 advertising-router=10.0.0.1 sequence=0x80000002 body=0xffffff000a000\
+          0010a000009\n",
+        b"L\0\0\0\0\0\0\0p\x02\x04\0p\x0a\0\0\x07\0\0\0\x01\x96V\0\x01secret\0\0\0\0\0\x02\x02\
+          \x82\"\x01\x0a\0\0\x01\x0a\0\0\x01\x80\0\x0a?\xd77\04\x03\0\0\x02\x0a\0\0\x02\xc0\0\
+          \x02\x01\x01\x01\0\x0a\x05\0\0\x07\xc0\0\x02\0\xff\xff\xff\xfc\x03\0\0\x0a\0\x03\x02\
+          \x02\x0a\0\0\x09\x0a\0\0\x01\x80\0\0\x02\x7f\x9d\0 \xff\xff\xff\0\x0a\0\0\x01\x0a\0\
+          \0\x09",
+    ),
+    (
+        b"ospf ls-update router=10.0.0.7 area=0.0.0.0 router-lsa age=1 id=10.0.0.1 sequence=0x\
+          80000001 checksum=0xffff count=2 rest=0x00\n",
+        b"L\0\0\0\0\0\0\05\x02\x04\05\x0a\0\0\x07\0\0\0\0]\xa0\0\0\0\0\0\0\0\0\0\0\0\0\0\x02\0\
+          \x01\x02\x01\x0a\0\0\x01\x0a\0\0\x01\x80\0\0\x01\xff\xff\0\x18\0\0\0\0\0",
+    ),
+    (
+        b"ospf packet 1 router=10.0.0.7 area=0.0.0.0 checksum=0x0000 body=0xffffff00000a ; oct\
+          ets 0x02\n",
+        b"L\0\0\0\0\0\0\0\x1f\x02\x01\0\x1e\x0a\0\0\x07\0\0\0\0\0\0\0\0\0\0\0\0\0\0\0\0\xff\
+          \xff\xff\0\0\x0a\x02",
+    ),
     (b"record 0x44 7 0x\n", b"D\0\0\0\x07\0\0\0\0"),
     (b"octets 0x44000000\n", b"D\0\0\0"),
 ];
@@ -109,6 +140,19 @@ fn the_first_faulty_line_is_refused_with_its_word(rt: HostRuntime) -> Result<(),
         ),
         (b"bgp 1 open hold=90\n".as_slice(), 1, 4, Why::Missing),
         (b"close 1 fault 3/256\n".as_slice(), 1, 4, Why::Value),
+        (b"ospf packet 256\n".as_slice(), 1, 3, Why::Value),
+        (
+            b"ospf ls-update router=1.1.1.1\n".as_slice(),
+            1,
+            4,
+            Why::Missing,
+        ),
+        (
+            b"ospf ls-update router=1.1.1.1 area=0.0.0.0 router-lsa age=1 id=1.1.1.1 sequence=0x80\n".as_slice(),
+            1,
+            8,
+            Why::Value,
+        ),
     ] {
         let (_, end) = written(alloc, text)?;
         assert_eq!(rt;

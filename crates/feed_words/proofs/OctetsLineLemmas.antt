@@ -6,9 +6,9 @@ use Rattle.std.proofs.lemmas.Bool.{cases_lt, lt-ltb, le-ltb, le-leb, lt-leb}
 use Rattle.std.proofs.lemmas.List.{length-append}
 use Rattle.std.proofs.lemmas.List.Elements.{All-append, All-from_recursion}
 use Rattle.std.proofs.lemmas.List.Splits.{slice_split_at, slice_split_none}
-use Rattle.feed_words.specs.Words.{hex_digit, of_two_digits, hex_pairs_onto, digit, hex_pairs, hex_text, is_blank, is_some_word, before_comment, words_of, without_return, lines_of}
+use Rattle.line_words.specs.Words.{hex_digit, of_two_digits, hex_pairs_onto, digit, hex_pairs, hex_text, is_blank, is_some_word, before_comment, words_of, without_return, lines_of}
 use Rattle.feed_words.specs.Records.{words_octets}
-use Rattle.feed_words.specs.declared.fault.Why.TheVariants as why
+use Rattle.line_words.specs.declared.stop.Why.TheVariants as why
 use Rattle.feed_words.specs.Texts.{at_word, words_give, line_fault, line_without_return_gives, line_gives, lines_give, reading_of, whole}
 use Rattle.feed_words.proofs.TextLemmas.{blank_gives, taken}
 use Rattle.feed_words.specs.Joining.{octets_line}

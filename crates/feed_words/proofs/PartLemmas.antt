@@ -1,11 +1,11 @@
 -- Reading the parts of a line one after another, as a loop does.
 use Rattle.std.proofs.Common.{◌≡◌, ℕ, zero, suc, ◌-◌, ◌<◌, Bool, true, false, cond, List, [], ◌∷◌, Result, Ok, refl, sym, ap, ◌∙◌, arith}
 use Rattle.std.specs.Prelude.{bytes_eq, codes}
-use Rattle.feed_words.specs.declared.fault.WordFault.{WordFault}
-use Rattle.feed_words.specs.declared.fault.Why.TheVariants as why
-use Rattle.feed_words.specs.declared.fault.Stop.{Stop}
-use Rattle.feed_words.specs.declared.fault.Stop.TheVariants as stop
-use Rattle.feed_words.specs.Reading.{Fails, faulty}
+use Rattle.line_words.specs.declared.stop.WordFault.{WordFault}
+use Rattle.line_words.specs.declared.stop.Why.TheVariants as why
+use Rattle.line_words.specs.declared.stop.Stop.{Stop}
+use Rattle.line_words.specs.declared.stop.Stop.TheVariants as stop
+use Rattle.line_words.specs.Reading.{Fails, faulty}
 use Rattle.feed_words.specs.Parts.{parts_within}
 
 abbrev Part : Type 0

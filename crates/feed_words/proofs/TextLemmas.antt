@@ -4,11 +4,11 @@ use Rattle.std.specs.List.{slice_split, onto_first}
 use Rattle.std.proofs.lemmas.Bool.{cond_both}
 use Rattle.std.proofs.lemmas.List.Splits.{slice_split-cons_yes, slice_split-cons_no}
 use Rattle.feed_words.specs.declared.fault.LineFault.{LineFault}
-use Rattle.feed_words.specs.declared.fault.WordFault.{WordFault}
+use Rattle.line_words.specs.declared.stop.WordFault.{WordFault}
 use Rattle.feed_words.specs.declared.fault.TextFault.{TextFault}
-use Rattle.feed_words.specs.Reading.{◌>>=◌}
-use Rattle.feed_words.specs.Words.{lines_of, without_return, words_of}
-use Rattle.feed_words.specs.declared.fault.Why.TheVariants as why
+use Rattle.line_words.specs.Reading.{◌>>=◌}
+use Rattle.line_words.specs.Words.{lines_of, without_return, words_of}
+use Rattle.line_words.specs.declared.stop.Why.TheVariants as why
 use Rattle.feed_words.specs.Texts.{closed, line_fault, at_word, words_give, roster_line_gives, line_without_return_gives, line_gives, Reading, with_front, lines_give, reading_of, whole}
 use Rattle.feed_words.specs.Joining.{EndsLine}
 

@@ -1,10 +1,10 @@
 -- What the functions of records answer, as the definitions' records and octets.
 use Rattle.std.specs.Prelude.{◌≡◌, ℕ, List, Option, Some, None, Result, Ok, Err}
 use Rattle.rcp_base.specs.Feed.{OutRecord, frame}
-use Rattle.feed_words.specs.declared.fault.WordFault.{WordFault}
-use Rattle.feed_words.specs.declared.fault.Stop.{Stop}
+use Rattle.line_words.specs.declared.stop.WordFault.{WordFault}
+use Rattle.line_words.specs.declared.stop.Stop.{Stop}
 use Rattle.feed_words.specs.declared.records.Head.{Head}
-use Rattle.feed_words.specs.Reading.{Fails}
+use Rattle.line_words.specs.Reading.{Fails}
 
 abbrev pub GivesRecord : Result Head Stop → List ℕ → Result OutRecord WordFault → Type 0
 GivesRecord (Ok head) body read = read ≡ Ok (record { kind = head.kind; connection = head.source; body = body })

@@ -1,6 +1,6 @@
 -- Texts that may stand one after another, and the text of any octets.
 use Rattle.std.specs.Prelude.{◌≡◌, ◌⊎◌, ℕ, List, [], ◌∷◌, ◌++◌, codes}
-use Rattle.feed_words.specs.Words.{hex_text}
+use Rattle.line_words.specs.Words.{hex_text}
 
 -- it is empty, or its last octet is 0A
 abbrev pub EndsLine : List ℕ → Type 0

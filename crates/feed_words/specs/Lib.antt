@@ -1,11 +1,3 @@
-pub mod Reading
-pub mod Words
-pub mod Values
-pub mod Fields
-pub mod Lists
-pub mod Attributes
-pub mod Capabilities
-pub mod Bgp
 pub mod Parts
 pub mod Records
 pub mod Heads

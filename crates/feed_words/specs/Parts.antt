@@ -1,17 +1,17 @@
 -- The parts of a `bgp` or an `ospf` line.
 use Rattle.std.specs.Prelude.{ℕ, zero, suc, ◌^◌, List, [], ◌∷◌, Result, Ok, if◌then◌else◌, bytes_eq, codes}
-use Rattle.feed_words.specs.declared.fault.Why.TheVariants as why
-use Rattle.feed_words.specs.declared.fault.WordFault.{WordFault}
+use Rattle.line_words.specs.declared.stop.Why.TheVariants as why
+use Rattle.line_words.specs.declared.stop.WordFault.{WordFault}
 use Rattle.feed_words.specs.declared.parts.Protocol.{Protocol}
 use Rattle.feed_words.specs.declared.parts.Protocol.TheVariants as protocol
-use Rattle.feed_words.specs.Reading.{◌>>=◌, faulty}
-use Rattle.feed_words.specs.Values.{octets_part}
-use Rattle.feed_words.specs.Bgp.{bgp_part}
+use Rattle.line_words.specs.Reading.{◌>>=◌, faulty}
+use Rattle.bgp_words.specs.Bgp.{bgp_part}
+use Rattle.ospf_words.specs.Packets.{ospf_part}
 
 -- a part of a line of this protocol
 unfoldable pub part_of : Protocol → List ℕ → List (List ℕ) → Result (List ℕ × List (List ℕ)) WordFault
 part_of protocol.Bgp out ws = bgp_part out ws
-part_of protocol.Ospf out ws = octets_part out ws
+part_of protocol.Ospf out ws = ospf_part out ws
 
 -- parts with `;` between them
 unfoldable pub parts_within : (List ℕ → List (List ℕ) → Result (List ℕ × List (List ℕ)) WordFault) → ℕ → List ℕ → List (List ℕ) → Result (List ℕ) WordFault

@@ -2,13 +2,13 @@
 use Rattle.std.specs.Prelude.{ℕ, List, [], ◌∷◌, ◌++◌, length, Result, Ok, nat_lt, if◌then◌else◌, bytes_eq, codes}
 use Rattle.std.specs.Int.{w16, w32, w64, to_be_bytes}
 use Rattle.rcp_base.specs.Feed.{OutRecord, frame}
-use Rattle.feed_words.specs.declared.fault.Why.TheVariants as why
-use Rattle.feed_words.specs.declared.fault.WordFault.{WordFault}
+use Rattle.line_words.specs.declared.stop.Why.TheVariants as why
+use Rattle.line_words.specs.declared.stop.WordFault.{WordFault}
 use Rattle.feed_words.specs.declared.parts.Protocol.TheVariants as protocol
 use Rattle.rcp_base.specs.Text.{number_of}
-use Rattle.feed_words.specs.Reading.{◌>>=◌, faulty, value_word, ended}
-use Rattle.feed_words.specs.Values.{u16_word, u32_word, u64_word, address_word, octet_word, hex_word}
-use Rattle.feed_words.specs.Fields.{field, code_onto}
+use Rattle.line_words.specs.Reading.{◌>>=◌, faulty, value_word, ended}
+use Rattle.line_words.specs.Values.{u16_word, u32_word, u64_word, address_word, octet_word, hex_word}
+use Rattle.line_words.specs.Fields.{field, code_onto}
 use Rattle.feed_words.specs.Parts.{part_of, parts}
 
 -- ---- records of fixed fields

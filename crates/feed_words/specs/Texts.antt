@@ -1,15 +1,15 @@
 -- What a text stands for: the octets of its lines, up to the first faulty one.
 use Rattle.std.specs.Prelude.{ℕ, ◌+◌, ◌-◌, ◌^◌, List, [], ◌∷◌, ◌++◌, length, slice_index, Option, Some, None, option_map, option_to_list, Result, Ok, Err, Bool, true, false, nat_lt, ◌==◌, if◌then◌else◌, bytes_eq, codes}
 use Rattle.rcp_base.specs.Feed.{frame}
-use Rattle.feed_words.specs.declared.fault.Why.{Why}
-use Rattle.feed_words.specs.declared.fault.Why.TheVariants as why
-use Rattle.feed_words.specs.declared.fault.WordFault.{WordFault}
+use Rattle.line_words.specs.declared.stop.Why.{Why}
+use Rattle.line_words.specs.declared.stop.Why.TheVariants as why
+use Rattle.line_words.specs.declared.stop.WordFault.{WordFault}
 use Rattle.feed_words.specs.declared.fault.LineFault.{LineFault}
 use Rattle.feed_words.specs.declared.fault.TextFault.{TextFault}
 use Rattle.feed_words.specs.declared.roster_text.Escape.{Escape}
 use Rattle.feed_words.specs.declared.roster_text.Escape.TheVariants as escape
-use Rattle.feed_words.specs.Reading.{◌>>=◌, ended}
-use Rattle.feed_words.specs.Words.{lines_of, without_return, words_of, of_two_digits, hex_digit}
+use Rattle.line_words.specs.Reading.{◌>>=◌, ended}
+use Rattle.line_words.specs.Words.{lines_of, without_return, words_of, of_two_digits, hex_digit}
 use Rattle.feed_words.specs.Records.{words_octets}
 
 -- ---- the lines of a roster's text

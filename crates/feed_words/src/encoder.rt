@@ -1,15 +1,15 @@
 //! Lines of a text, one after another, as the octets that they stand for.
 
 ghost use Rattle.std.specs.Prelude.{◌≡◌, ◌≤◌, [], ◌++◌, length, ◌^◌, None, Some, OnOk, OnErr, if◌then◌else◌};
-ghost use Rattle.feed_words.specs.Words.{words_of};
-ghost use Rattle.feed_words.specs.Reading.{Gives};
+ghost use Rattle.line_words.specs.Words.{words_of};
+ghost use Rattle.line_words.specs.Reading.{Gives};
 ghost use Rattle.feed_words.specs.Ends.{GivesLine};
 ghost use Rattle.feed_words.specs.Texts.{closed, words_give, roster_line_gives, at_word, line_gives};
 
-use crate::fault::{LineStop, Stop, Why};
+use crate::fault::LineStop;
 use crate::records::{Head, piece_of, push_piece};
 use crate::roster_text::{push_roster_line, word_fault};
-use crate::words::{count_words, ended, split_word, without_return};
+use line_words::{Stop, Why, count_words, ended, split_word, without_return};
 use std::alloc::{AllocError, Global};
 use std::marker::Model;
 

@@ -1,14 +1,13 @@
 //! The parts of a `bgp` or an `ospf` line.
 
 ghost use Rattle.std.specs.Prelude.{◌≡◌, ◌^◌, [], codes, bytes_eq};
-ghost use Rattle.feed_words.specs.Words.{words_of};
-ghost use Rattle.feed_words.specs.Reading.{Gives};
+ghost use Rattle.line_words.specs.Words.{words_of};
+ghost use Rattle.line_words.specs.Reading.{Gives};
 ghost use Rattle.feed_words.specs.Parts.{part_of, parts_within, parts};
 
-use crate::bgp::bgp_part;
-use crate::fault::{Stop, Why};
-use crate::hex::octets_part;
-use crate::words::{fault, split_word};
+use bgp_words::bgp_part;
+use line_words::{Stop, Why, fault, split_word};
+use ospf_words::ospf_part;
 
 /// Whose messages a line has.
 #[derive(Clone, Copy)]
@@ -27,7 +26,7 @@ fn part<'a>(protocol: Protocol, words: &'a [u8], body: &mut Vec<u8>) -> Result<&
 {
     match protocol {
         Protocol::Bgp => bgp_part(words, body),
-        Protocol::Ospf => octets_part(words, body),
+        Protocol::Ospf => ospf_part(words, body),
     }
 }
 

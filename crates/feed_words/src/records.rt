@@ -1,17 +1,16 @@
 //! The record that the words of a line stand for.
 
 ghost use Rattle.std.specs.Prelude.{◌≡◌, ◌≤◌, ◌^◌, [], ◌∷◌, ◌++◌, length, IfOk, OnOk, IsSome, ℕ, List, Option, Some, None, Result, Ok, Err};
-ghost use Rattle.feed_words.specs.Words.{words_of};
-ghost use Rattle.feed_words.specs.Reading.{Gives};
+ghost use Rattle.line_words.specs.Words.{words_of};
+ghost use Rattle.line_words.specs.Reading.{Gives};
 ghost use Rattle.feed_words.specs.Heads.{GivesRecord, GivesPiece, piece_octets};
 ghost use Rattle.feed_words.specs.Records.{established, connect, time, work, bare, ospf_lost, reason, close, summary, any_record, bgp, ospf, rare_record, platform_record, record_of, fitting_record, words_octets};
 
-use crate::fault::{Stop, Why};
-use crate::fields::{code_word, u64_field};
-use crate::hex::{hex_word, octet_word};
 use crate::parts::{Protocol, parts};
-use crate::values::{address_word, u16_word, u32_word, u64_word};
-use crate::words::{ended, fault, split_word};
+use line_words::{
+    Stop, Why, address_word, code_word, ended, fault, hex_word, number_field, number_word,
+    octet_word, split_word,
+};
 use std::alloc::AllocError;
 
 /// The fields of a record before its body.
@@ -29,7 +28,7 @@ fn established(words: &[u8], body: &mut Vec<u8>) -> Result<Head, Stop>
     requires { body.old.items ≡ [] }
     ensures { GivesRecord result body.new.items (established (words_of words.now)) }
 {
-    let (source, words) = u32_word(words)?;
+    let (source, words) = number_word::<u32>(words)?;
     let (id, words) = address_word(words)?;
     ended(words)?;
     body.extend_from_slice(&id.to_be_bytes())?;
@@ -41,7 +40,7 @@ fn connect(words: &[u8], body: &Vec<u8>) -> Result<Head, Stop>
     requires { body.now.items ≡ [] }
     ensures { GivesRecord result body.now.items (connect (words_of words.now)) }
 {
-    let (source, words) = u32_word(words)?;
+    let (source, words) = number_word::<u32>(words)?;
     ended(words)?;
     Ok(Head { kind: b'U', source })
 }
@@ -51,7 +50,7 @@ fn time(words: &[u8], body: &mut Vec<u8>) -> Result<Head, Stop>
     requires { body.old.items ≡ [] }
     ensures { GivesRecord result body.new.items (time (words_of words.now)) }
 {
-    let (seconds, words) = u64_word(words)?;
+    let (seconds, words) = number_word::<u64>(words)?;
     ended(words)?;
     body.extend_from_slice(&seconds.to_be_bytes())?;
     Ok(Head {
@@ -65,8 +64,8 @@ fn work(words: &[u8], body: &mut Vec<u8>) -> Result<Head, Stop>
     requires { body.old.items ≡ [] }
     ensures { GivesRecord result body.new.items (work (words_of words.now)) }
 {
-    let (shard, words) = u16_word(words)?;
-    let (count, words) = u32_word(words)?;
+    let (shard, words) = number_word::<u16>(words)?;
+    let (count, words) = number_word::<u32>(words)?;
     ended(words)?;
     body.extend_from_slice(&shard.to_be_bytes())?;
     body.extend_from_slice(&count.to_be_bytes())?;
@@ -91,7 +90,7 @@ fn ospf_lost(words: &[u8], body: &mut Vec<u8>) -> Result<Head, Stop>
     requires { body.old.items ≡ [] }
     ensures { GivesRecord result body.new.items (ospf_lost (words_of words.now)) }
 {
-    let (place, words) = u64_word(words)?;
+    let (place, words) = number_word::<u64>(words)?;
     ended(words)?;
     body.extend_from_slice(&place.to_be_bytes())?;
     Ok(Head {
@@ -131,7 +130,7 @@ fn close(words: &[u8], body: &mut Vec<u8>) -> Result<Head, Stop>
     requires { body.old.items ≡ [] }
     ensures { GivesRecord result body.new.items (close (words_of words.now)) }
 {
-    let (source, words) = u32_word(words)?;
+    let (source, words) = number_word::<u32>(words)?;
     let words = reason(words, body)?;
     ended(words)?;
     Ok(Head { kind: b'X', source })
@@ -142,9 +141,9 @@ fn summary(words: &[u8], body: &mut Vec<u8>) -> Result<Head, Stop>
     requires { body.old.items ≡ [] }
     ensures { GivesRecord result body.new.items (summary (words_of words.now)) }
 {
-    let (routers, words) = u64_field(words, b"routers=")?;
-    let (prefixes, words) = u64_field(words, b"prefixes=")?;
-    let (updates, words) = u64_field(words, b"updates=")?;
+    let (routers, words) = number_field::<u64>(words, b"routers=")?;
+    let (prefixes, words) = number_field::<u64>(words, b"prefixes=")?;
+    let (updates, words) = number_field::<u64>(words, b"updates=")?;
     ended(words)?;
     body.extend_from_slice(&routers.to_be_bytes())?;
     body.extend_from_slice(&prefixes.to_be_bytes())?;
@@ -162,7 +161,7 @@ fn any_record(words: &[u8], body: &mut Vec<u8>) -> Result<Head, Stop>
     ensures { GivesRecord result body.new.items (any_record (words_of words.now)) }
 {
     let (kind, words) = octet_word(words)?;
-    let (source, words) = u32_word(words)?;
+    let (source, words) = number_word::<u32>(words)?;
     let words = hex_word(words, body)?;
     ended(words)?;
     Ok(Head { kind, source })
@@ -173,7 +172,7 @@ fn bgp(words: &[u8], body: &mut Vec<u8>) -> Result<Head, Stop>
     requires { body.old.items ≡ [] }
     ensures { GivesRecord result body.new.items (bgp (words_of words.now)) }
 {
-    let (source, words) = u32_word(words)?;
+    let (source, words) = number_word::<u32>(words)?;
     parts(Protocol::Bgp, words, body)?;
     Ok(Head { kind: b'B', source })
 }

@@ -6,8 +6,8 @@ ghost use Rattle.feed_words.specs.Texts.{escape_step, at_end, unescaped_onto, af
 ghost use Rattle.feed_words.specs.declared.fault.LineStop.TheVariants as line_stop;
 ghost use Rattle.feed_words.specs.Ends.{GivesLine, IsAfterBar};
 
-use crate::fault::{LineFault, LineStop, Why};
-use crate::hex::of_two_digits;
+use crate::fault::{LineFault, LineStop};
+use line_words::{Why, of_two_digits};
 use std::alloc::AllocError;
 
 /// The most octets that a roster's text has.

@@ -1,6 +1,6 @@
 use Rattle.std.proofs.Common.{◌++◌, refl, inr}
 use Rattle.std.specs.Prelude.{codes}
-use Rattle.feed_words.specs.Words.{hex_text}
+use Rattle.line_words.specs.Words.{hex_text}
 use Rattle.feed_words.proofs.OctetsLineLemmas.{octets_line_is}
 use Rattle.feed_words.proofs.laws.octets_are_read_again.Goals as goal
 

@@ -1,6 +1,6 @@
 use Rattle.std.proofs.Common.{◌≡◌, ◌-◌, ◌+◌, ◌^◌, ℕ, sym, ap, ◌∙◌, arith}
 use Rattle.std.proofs.lemmas.Result.{err_from_is_err_and}
-use Rattle.feed_words.specs.Words.{words_of}
+use Rattle.line_words.specs.Words.{words_of}
 use Rattle.feed_words.specs.Parts.{part_of, parts_within}
 use Rattle.feed_words.proofs.PartLemmas.{part_fails, last_part, next_part, other_word, too_many}
 use Rattle.feed_words.proofs.parts.some_parts.Goals as goal

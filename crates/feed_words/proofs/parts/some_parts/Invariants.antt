@@ -1,6 +1,6 @@
 -- The parts left, after the octets so far, give what all parts give.
 use Rattle.std.proofs.Common.{◌≡◌, ◌-◌, ◌^◌}
-use Rattle.feed_words.specs.Words.{words_of}
+use Rattle.line_words.specs.Words.{words_of}
 use Rattle.feed_words.specs.Parts.{part_of, parts_within}
 use Rattle.feed_words.proofs.parts.some_parts.Given as goal
 

@@ -1,6 +1,6 @@
 use Rattle.std.proofs.Common.{◌≡◌, ◌∷◌, [], ◌++◌, ℕ, List, Option, Ok, sym, subst}
 use Rattle.std.proofs.lemmas.Option.{MatchOption-at_none}
-use Rattle.feed_words.specs.Words.{lines_of}
+use Rattle.line_words.specs.Words.{lines_of}
 use Rattle.feed_words.specs.Texts.{line_gives}
 use Rattle.feed_text.proofs.LineLemmas.{Compares, compares_start, compares_more, compares_end, at_some}
 use Rattle.feed_text.proofs.checker.Checker.stands_for.Goals as goal

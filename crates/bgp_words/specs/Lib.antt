@@ -1,0 +1,3 @@
+pub mod Attributes
+pub mod Capabilities
+pub mod Bgp

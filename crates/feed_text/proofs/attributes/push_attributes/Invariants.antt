@@ -1,5 +1,0 @@
-use Rattle.std.proofs.Common.{length}
-use Rattle.feed_text.proofs.attributes.push_attributes.Given as goal
-
-abbrev pub decreases-loop-attribute : goal.decreases-loop-attribute
-decreases-loop-attribute l = length l.rest

@@ -1,5 +1,0 @@
-use Rattle.std.proofs.Common.{length}
-use Rattle.feed_text.proofs.messages.push_prefixes.Given as goal
-
-abbrev pub decreases-loop-length : goal.decreases-loop-length
-decreases-loop-length l = length l.rest

@@ -1,0 +1,5 @@
+pub mod Reading
+pub mod Words
+pub mod Values
+pub mod Fields
+pub mod Lists

@@ -1,0 +1,4 @@
+pub mod Checksums
+pub mod Links
+pub mod Lsas
+pub mod Packets
