@@ -43,16 +43,16 @@ each_at {A} P place made after v count grown holds so_far k a below = elim (deci
     kept : k < place → get_or after k a ≡ get_or made k a
     kept before = ap (λ (s : List A). get_or s k a) grown ∙ get_or_append_left made (v ∷ []) a k (subst (λ (n : ℕ). k < n) (sym count) before)
 
-module _ {A B : Type 0} (first : List B) (place : ℕ) (now rest : List B) (x : B) where
+module _ {B : Type 0} (first : List B) (place : ℕ) (now rest : List B) (x : B) where
   pub rest_at : now ≡ x ∷ rest → ((k : ℕ) (d : B) → get_or now k d ≡ get_or first (place + k) d) → (k : ℕ) (d : B) → get_or rest k d ≡ get_or first (place + 1 + k) d
   rest_at is at k d =
       ap (λ (r : List B). get_or r (suc k) d) (sym is) ∙ at (suc k) d ∙ ap (λ (n : ℕ). get_or first n d) (omega arith)
 
-  pub made_at : (R : A → B → Type 0) (made after : List A) (v : A) → now ≡ x ∷ rest → ((k : ℕ) (d : B) → get_or now k d ≡ get_or first (place + k) d)
+  pub made_at : {A : Type 0} (R : A → B → Type 0) (made after : List A) (v : A) → now ≡ x ∷ rest → ((k : ℕ) (d : B) → get_or now k d ≡ get_or first (place + k) d)
       → length made ≡ place → after ≡ made ++ v ∷ [] → R v x
       → ((k : ℕ) (a : A) (b : B) → k < place → R (get_or made k a) (get_or first k b))
       → (k : ℕ) (a : A) (b : B) → k < place + 1 → R (get_or after k a) (get_or first k b)
-  made_at R made after v is at count grown holds so_far k a b below =
+  made_at {A} R made after v is at count grown holds so_far k a b below =
       each_at (λ (n : ℕ) (s : A). (d : B) → R s (get_or first n d)) place made after v count grown (λ d. subst (R v) (sym (front d)) holds) (λ n s before d. so_far n s d before) k a below b
     where
       front : (d : B) → get_or first place d ≡ x
@@ -122,35 +122,38 @@ module _ (slots shards room : ℕ) (rows : List (Vec (Sender OfferFields) Global
       sender : Sender OfferFields
       sender = first_of slot (get_or rows shard row).items long
 
-pub wired : (shards slots room room' : ℕ) (all rows : List (Vec (Sender Mail) Global)) (last : Vec (Sender Mail) Global) (mails : List (Receiver Mail))
+pub wired : (shards slots boxes senders room boxes' senders' room' : ℕ) (all rows : List (Vec (Sender Mail) Global)) (last : Vec (Sender Mail) Global) (mails : List (Receiver Mail))
     (offers : List (Vec (Sender OfferFields) Global)) (takers : List (Receiver OfferFields)) (workers : List WorkerOf) (seats : List SeatEnds)
-    → IsMesh shards (slots + 1) room (items_of all) mails → all ≡ rows ++ last ∷ [] → IsMesh slots shards room' (items_of offers) takers
+    → IsMesh boxes senders room (items_of all) mails → all ≡ rows ++ last ∷ [] → IsMesh boxes' senders' room' (items_of offers) takers
+    → boxes ≡ shards → senders ≡ slots + 1 → boxes' ≡ slots → senders' ≡ shards
     → ((shard : ℕ) (worker : WorkerOf) → shard < shards → (get_or workers shard worker).run.shard.number ≡ shard)
     → ((shard : ℕ) (worker : WorkerOf) (mail : Receiver Mail) → shard < shards → (get_or workers shard worker).inbox ≡ inbox_of (get_or mails shard mail))
     → ((shard : ℕ) (worker : WorkerOf) (row : Vec (Sender OfferFields) Global) → shard < shards → (get_or workers shard worker).ports ≡ map port_of (get_or offers shard row).items)
     → ((slot : ℕ) (seat : SeatEnds) (row : Vec (Sender Mail) Global) → slot < slots → (get_or seats slot seat).shards ≡ get_or rows slot row)
     → ((slot : ℕ) (seat : SeatEnds) (receiver : Receiver OfferFields) → slot < slots → (get_or seats slot seat).offers ≡ get_or takers slot receiver)
     → AreWired shards slots workers seats last.items
-wired shards slots room room' all rows last mails offers takers workers seats mesh is mesh' numbers inboxes ports ends taking = record {
+wired shards slots boxes senders room boxes' senders' room' all rows last mails offers takers workers seats mesh is mesh' wide many wide' many' numbers inboxes ports ends taking = record {
   numbers = numbers;
   from_seats = λ slot shard seat sender worker within below.
-      seat_box shards (slots + 1) room shards rows all last mails mesh is slot shard (get_or seats slot seat).shards sender (mail shard below) (omega (arith, within, counted)) below (ends slot seat last within)
+      seat_box boxes senders room shards rows all last mails mesh is slot shard (get_or seats slot seat).shards sender (mail shard below) (omega (arith, within, counted, many)) (omega (arith, below, wide))
+          (ends slot seat last within)
       ∙ sym (box shard worker below);
   from_viewer = λ shard sender worker below.
-      viewer_box shards (slots + 1) room shards rows all last mails mesh is shard sender (mail shard below) below ∙ sym (box shard worker below);
+      viewer_box boxes senders room shards rows all last mails mesh is shard sender (mail shard below) (omega (arith, below, wide)) ∙ sym (box shard worker below);
   to_seats = λ slot shard seat port worker within below.
-      port_box slots shards room' offers takers mesh' slot shard port (get_or workers shard worker).ports (taker slot within) within below (λ row. ports shard worker row below)
+      port_box boxes' senders' room' offers takers mesh' slot shard port (get_or workers shard worker).ports (taker slot within) (omega (arith, within, wide')) (omega (arith, below, many'))
+          (λ row. ports shard worker row below)
       ∙ sym (ap mailbox_at (taking slot seat (taker slot within) within));
 }
   where
-    counted : length rows + 1 ≡ slots + 1
-    counted = counted_rows shards (slots + 1) room shards rows all last mails mesh is
+    counted : length rows + 1 ≡ senders
+    counted = counted_rows boxes senders room shards rows all last mails mesh is
 
     mail : (shard : ℕ) → shard < shards → Receiver Mail
-    mail shard below = first_of shard mails (subst (λ (n : ℕ). shard < n) (sym mesh.receivers_are) below)
+    mail shard below = first_of shard mails (omega (arith, below, wide, mesh.receivers_are))
 
     taker : (slot : ℕ) → slot < slots → Receiver OfferFields
-    taker slot within = first_of slot takers (subst (λ (n : ℕ). slot < n) (sym mesh'.receivers_are) within)
+    taker slot within = first_of slot takers (omega (arith, within, wide', mesh'.receivers_are))
 
     box : (shard : ℕ) (worker : WorkerOf) (below : shard < shards) → (get_or workers shard worker).inbox.mailbox ≡ mailbox_at (get_or mails shard (mail shard below))
     box shard worker below = ap (λ (i : InboxOf). i.mailbox) (inboxes shard worker (mail shard below) below)

@@ -1,4 +1,4 @@
-use Rattle.std.proofs.Common.{◌≡◌, ℕ, arith}
+use Rattle.std.proofs.Common.{refl, ◌≡◌, arith}
 use Rattle.daemon_parts.proofs.PartsLemmas.{enough, rest_at, made_at}
 use Rattle.daemon_parts.proofs.parts.seats_of.Goals as goal
 
@@ -14,5 +14,5 @@ loop-preserved c =
       rest_rows = rest_at _ _ _ _ _ row so_far.rest_rows;
       rest_receivers = rest_at _ _ _ _ _ receiver so_far.rest_receivers;
       rows = made_at _ _ _ _ _ (λ seat row. seat.shards ≡ row) _ _ _ row so_far.rest_rows so_far.count c.in_ok-push.ensures.items c.in-Some-Some.shards-is so_far.rows;
-      receivers = made_at _ _ _ _ _ (λ seat receiver. seat.offers ≡ receiver) _ _ _ receiver so_far.rest_receivers so_far.count c.in_ok-push.ensures.items c.in-Some-Some.offers-is so_far.receivers;
+      receivers = made_at _ _ _ _ _ (λ seat receiver. seat.offers ≡ receiver) _ _ _ receiver so_far.rest_receivers so_far.count c.in_ok-push.ensures.items refl so_far.receivers;
     }

@@ -1,4 +1,4 @@
-use Rattle.std.proofs.Common.{◌≡◌, ℕ, [], length, map, All, arith, ap, sym, subst, ◌∙◌}
+use Rattle.std.proofs.Common.{◌≡◌, [], length, map, All, arith, ap, sym, subst, ◌∙◌}
 use Rattle.cost_rows.specs.Views.{ViewOf}
 use Rattle.mailbox.specs.Boxes.{received, sent}
 use Rattle.rcs_shard.specs.Shards.{ShardOf}
@@ -28,9 +28,9 @@ loop-number-preserved c =
       rest_mails = rest_at _ _ _ _ _ mail so_far.rest_mails;
       rest_rows = rest_at _ _ _ _ _ row so_far.rest_rows;
       numbers = each_at (λ n worker. worker.run.shard.number ≡ n) _ _ _ _ so_far.count c.in_ok-push.ensures.items
-          (ap (λ (worker : WorkerOf). worker.run.shard.number) c.new-2.ensures.new ∙ ap (λ (shard : ShardOf). shard.number) c.in_ok-shard.ensures) so_far.numbers;
+          (ap (λ (worker : WorkerOf). worker.run.shard.number) c.new-in-loop-number.ensures.new ∙ ap (λ (shard : ShardOf). shard.number) c.in_ok-shard.ensures) so_far.numbers;
       inboxes = made_at _ _ _ _ _ (λ worker mail. worker.inbox ≡ inbox_of mail) _ _ _ mail so_far.rest_mails so_far.count c.in_ok-push.ensures.items
-          (ap (λ (worker : WorkerOf). worker.inbox) c.new-2.ensures.new) so_far.inboxes;
+          (ap (λ (worker : WorkerOf). worker.inbox) c.new-in-loop-number.ensures.new) so_far.inboxes;
       ports = made_at _ _ _ _ _ (λ worker row. worker.ports ≡ map port_of row.items) _ _ _ row so_far.rest_rows so_far.count c.in_ok-push.ensures.items
-          (ap (λ (worker : WorkerOf). worker.ports) c.new-2.ensures.new) so_far.ports;
+          (ap (λ (worker : WorkerOf). worker.ports) c.new-in-loop-number.ensures.new) so_far.ports;
     }
