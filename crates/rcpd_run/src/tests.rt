@@ -48,16 +48,7 @@ fn run_over<L: Link + Send, G: Gate + Sync, R: Threads + Wait + Sync>(
         "--sessions",
         sessions,
     ];
-    let status = run_daemon(
-        rt,
-        alloc,
-        &words,
-        &mut source,
-        &mut sink,
-        net,
-        &clock,
-        gate,
-    );
+    let status = run_daemon(rt, alloc, &words, &mut source, &mut sink, net, &clock, gate);
     let report = Vec::from_slice(alloc, sink.octets())?;
     Ok(Seen { status, report })
 }

@@ -11,7 +11,9 @@ use std::test::Fail;
 
 /// The types of a BGP message's header (RFC 4271 section 4.1).
 pub(super) const UPDATE: u8 = 2;
+
 pub(super) const NOTIFICATION: u8 = 3;
+
 pub(super) const KEEPALIVE: u8 = 4;
 
 /// The OPEN of the router 10.0.0.1 with the hold time 30, and a KEEPALIVE, each with its marker (RFC 4271 sections 4.1, 4.2, 4.4).
@@ -47,11 +49,14 @@ pub(super) struct Links {
 
 impl Links {
     pub(super) fn new(alloc: Global) -> Links {
-        Links { all: Vec::new(alloc) }
+        Links {
+            all: Vec::new(alloc),
+        }
     }
 
-    /// Adds a link on which these octets wait.
-    pub(super) fn add(&mut self, octets: Vec<u8>, gates: Gates) -> Result<(), NoMemory> {
+    /// These links, and one more on which these octets wait.
+    pub(super) fn with(self, octets: Vec<u8>, gates: Gates) -> Result<Links, NoMemory> {
+        let mut all = self.all;
         let alloc = *octets.allocator();
         let link = MemLink::new(octets, Vec::new(alloc), Vec::new(alloc), 4096);
         let Gates {
@@ -60,8 +65,8 @@ impl Links {
             at,
             opens,
         } = gates;
-        self.all.push(HeldLink::new(link, before, after, at, opens))?;
-        Ok(())
+        all.push(HeldLink::new(link, before, after, at, opens))?;
+        Ok(Links { all })
     }
 
     /// A net that hands them out, with these streams of link state.

@@ -42,9 +42,9 @@ fn the_second_connection_of_a_router_finds_its_seat_out(rt: HostRuntime) -> Resu
         at: NOTIFICATION,
         opens: vec![in alloc; refused]?,
     };
-    let mut links = Links::new(alloc);
-    links.add(octets_of(alloc, 1, &[])?, first)?;
-    links.add(octets_of(alloc, 1, &[])?, second)?;
+    let links = Links::new(alloc)
+        .with(octets_of(alloc, 1, &[])?, first)?
+        .with(octets_of(alloc, 1, &[])?, second)?;
     let mut net = links.into_net(Links::new(alloc));
     let Seen { status, report } = run_over(&rt, alloc, LINKED, "2", &mut net, &OpenGate::new())?;
     assert!(rt; status == Status::Done);
@@ -56,25 +56,24 @@ fn the_second_connection_of_a_router_finds_its_seat_out(rt: HostRuntime) -> Resu
 
 /// The links of three routers. The first announces a prefix; at its first UPDATE the second opens `better`, by which the third begins, which announces it with a higher LOCAL_PREF; at its second
 /// one it opens `held`, by which all end.
-fn three_links(
-    alloc: Global,
-    better: &Arc<HeldGate>,
-    held: &Arc<HeldGate>,
-) -> Result<Links, Fail> {
-    let mut links = Links::new(alloc);
+fn three_links(alloc: Global, better: &Arc<HeldGate>, held: &Arc<HeldGate>) -> Result<Links, Fail> {
     let mut opens = Vec::new(alloc);
     opens.push(better.clone()?)?;
     opens.push(held.clone()?)?;
-    links.add(octets_of(alloc, 1, ANNOUNCED)?, silent(alloc, open(alloc)?, held.clone()?))?;
+    let first = silent(alloc, open(alloc)?, held.clone()?);
     let second = Gates {
         before: open(alloc)?,
         after: held.clone()?,
         at: UPDATE,
         opens,
     };
-    links.add(octets_of(alloc, 2, &[])?, second)?;
-    links.add(octets_of(alloc, 3, PREFERRED)?, silent(alloc, better.clone()?, held.clone()?))?;
-    Ok(links)
+    let third = silent(alloc, better.clone()?, held.clone()?);
+    Ok(
+        Links::new(alloc)
+            .with(octets_of(alloc, 1, ANNOUNCED)?, first)?
+            .with(octets_of(alloc, 2, &[])?, second)?
+            .with(octets_of(alloc, 3, PREFERRED)?, third)?,
+    )
 }
 
 /// The gates of a link that opens none.
@@ -101,27 +100,29 @@ fn a_shard_is_served_while_the_other_shard_is_held(rt: HostRuntime) -> Result<()
 
 /// Two streams of link state: there is a way between 10.0.0.1 and 10.0.0.2 only once both were read.
 fn two_streams(alloc: Global) -> Result<Links, Fail> {
-    let mut streams = Links::new(alloc);
-    for octets in [LSA_OF_THE_FIRST, LSAS_OF_THE_OTHERS] {
-        let octets = Vec::from_slice(alloc, octets)?;
-        streams.add(octets, silent(alloc, open(alloc)?, open(alloc)?))?;
-    }
-    Ok(streams)
+    let first = silent(alloc, open(alloc)?, open(alloc)?);
+    let second = silent(alloc, open(alloc)?, open(alloc)?);
+    Ok(
+        Links::new(alloc)
+            .with(Vec::from_slice(alloc, LSA_OF_THE_FIRST)?, first)?
+            .with(Vec::from_slice(alloc, LSAS_OF_THE_OTHERS)?, second)?,
+    )
 }
 
 #[test]
 fn two_streams_of_link_state_together_make_a_route_reachable(rt: HostRuntime) -> Result<(), Fail> {
     let alloc = rt.alloc();
     let reached = shut(alloc)?;
-    let mut links = Links::new(alloc);
-    links.add(octets_of(alloc, 1, ANNOUNCED)?, silent(alloc, open(alloc)?, reached.clone()?))?;
+    let first = silent(alloc, open(alloc)?, reached.clone()?);
     let second = Gates {
         before: open(alloc)?,
         after: reached.clone()?,
         at: UPDATE,
         opens: vec![in alloc; reached.clone()?]?,
     };
-    links.add(octets_of(alloc, 2, &[])?, second)?;
+    let links = Links::new(alloc)
+        .with(octets_of(alloc, 1, ANNOUNCED)?, first)?
+        .with(octets_of(alloc, 2, &[])?, second)?;
     let mut net = links.into_net(two_streams(alloc)?);
     let Seen { status, report: _ } = run_over(&rt, alloc, BARE, "2", &mut net, &OpenGate::new())?;
     assert!(rt; status == Status::Done);
