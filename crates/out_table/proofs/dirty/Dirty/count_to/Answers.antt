@@ -1,7 +1,7 @@
-use Rattle.std.proofs.Common.{◌≡◌, ◌<◌, ◌≤◌, ◌-◌, ◌+◌, length, true, sym, subst, deque_len, MatchResult, Result, Ok, Err, ℕ, List, rules, of_calls, ◌∙◌, arith}
+use Rattle.std.proofs.Common.{◌≡◌, ◌<◌, ◌-◌, ◌+◌, length, sym, subst, deque_len, MatchResult, Result, ℕ, rules, of_calls}
 use Rattle.std.specs.List.{AllByRecursion}
 use Rattle.std.proofs.lemmas.Fn.{always_returns_same}
-use Rattle.std.specs.List.Sorted.{IsSearchInRange, IsBinarySearchResult}
+use Rattle.std.specs.List.Sorted.{IsSearchInRange}
 use Rattle.out_table.specs.Columns.{DirtyOf}
 use Rattle.out_table.specs.Places.{IsRising, IsPassed, order_in}
 use Rattle.out_table.proofs.RisingLemmas.{passed_at, searched_passed}

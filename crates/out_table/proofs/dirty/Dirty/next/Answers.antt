@@ -1,4 +1,4 @@
-use Rattle.std.proofs.Common.{◌≡◌, ℕ, ◌&&◌, Option, Some, None, slice_get, sym, ap, subst, rules}
+use Rattle.std.proofs.Common.{◌≡◌, ℕ, ◌&&◌, Option, slice_get, sym, subst, rules}
 use Rattle.std.specs.Option.{option_map}
 use Rattle.rcp_base.specs.IpPrefix.{IpPrefix}
 use Rattle.out_table.specs.Tables.{IsLeast, is_after}
