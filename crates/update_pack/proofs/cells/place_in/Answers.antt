@@ -5,7 +5,7 @@ use Rattle.update_pack.specs.Values.{value_in}
 use Rattle.update_pack.specs.Shown.{groups_in, group_in}
 use Rattle.update_pack.specs.Grouping.{place_of}
 use Rattle.update_pack.proofs.PlaceLemmas.{same_attrs, value-at}
-use Rattle.update_pack.proofs.offers.place_in.Goals as goal
+use Rattle.update_pack.proofs.cells.place_in.Goals as goal
 
 pub returns-then-eq : goal.returns-then-eq
 returns-then-eq c =

@@ -11,7 +11,7 @@ use Rattle.update_pack.specs.Grouping.{place_of, put_in}
 use Rattle.update_pack.specs.Places.{same_key, ArePlaces, IsAPlace}
 use Rattle.update_pack.proofs.PlaceLemmas.{placed-at, placed-new, at_its_place, at_the_end}
 use Rattle.update_pack.proofs.GroupLemmas.{put_in-at, put_in-new, place_of-there}
-use Rattle.update_pack.proofs.offers.put.Goals as goal
+use Rattle.update_pack.proofs.cells.put.Goals as goal
 
 pub add_prefix-requires-in-Some-place_in : goal.add_prefix-requires-in-Some-place_in
 add_prefix-requires-in-Some-place_in c =
