@@ -1,15 +1,15 @@
 -- How many prefixes are announced: the rows that are counted, and the prefixes of the base.
-use Rattle.std.proofs.Common.{◌≡◌, ℕ, ◌+◌, Bool, true, false, cond, ◌||◌, List, [], ◌∷◌, map, Option, Some, is_some, IsSome, refl, sym, ap, ◌∙◌}
+use Rattle.std.proofs.Common.{◌≡◌, ℕ, ◌+◌, Bool, true, false, cond, ◌||◌, List, [], ◌∷◌, map, Option, Some, is_some, refl, sym, ap, ◌∙◌}
 use Rattle.std.specs.FinMap as map_of
 use Rattle.std.specs.FinMap.Entries.{find}
 use Rattle.std.specs.FinSet as set_of
 use Rattle.std.specs.List.{list_any}
 use Rattle.std.specs.Ordering.{eq_by_cmp}
 use Rattle.rcp_base.specs.IpPrefix.{IpPrefix, prefix_cmp}
-use Rattle.rcp_model.specs.Ribs.{RibKey, RouteNumbers, rib_cmp}
+use Rattle.rcp_model.specs.Ribs.{RibKey, RouteNumbers}
 use Rattle.rcp_model.specs.ServerRibs.{Rib, Prefixes, prefixes_of}
 use Rattle.rcp_model.proofs.RibLemmas.{prefix_total, prefix_exact, rib_total, rib_exact}
-use Rattle.rib_laws.proofs.RibLookups.{same_test, get-retained, Has, has_of_prefixes, prefixes_of_has}
+use Rattle.rib_laws.proofs.RibLookups.{same_test, get-retained, has_of_prefixes, prefixes_of_has}
 use Rattle.route_store.specs.Announcers.{announced}
 
 abbrev marked : List (RibKey × ℕ) → List (IpPrefix × Unit {0})

@@ -19,7 +19,7 @@ use Rattle.route_store.specs.Next as next
 use Rattle.route_store.proofs.DropLemmas.{all_dropped}
 use Rattle.out_table.specs.Tables as tables
 use Rattle.out_table.specs.Tables.{Table}
-use Rattle.adj_ribs.specs.Bases.{Bases, announced_at, after_change, after_drop, after_take, after_clear}
+use Rattle.adj_ribs.specs.Bases.{Bases, announced_at, after_change, after_drop, after_take, after_clear, after_clean}
 use Rattle.adj_ribs.specs.Joins.{routes_of, bases_of, held_by, released_if, IsCounted, AreJoined}
 use Rattle.adj_ribs.proofs.UseLemmas.{is_key, key_is, is_key-itself, len_with, there, plus, counted_same, counted_released_if, counted_cells, live_if}
 use Rattle.adj_ribs.proofs.RouteLemmas.{Narrows, Carries, routes_without, routes_same, once_narrowed, narrows_live, released_narrows_if, same_in}
@@ -50,6 +50,16 @@ module _ (routes : KeptRoutes) (numbers : RouteNumbers) (table : Table) (slot : 
 
   pub bases_cleaned : (o : Option IpPrefix) (table2 : Table) → table2 ≡ tables.cleaned slot o table → (b : Bases) → bases_of routes numbers table ≡ b → bases_of routes numbers table2 ≡ after_take slot o b
   bases_cleaned o table2 is b view = ap (bases_of routes numbers) is ∙ bases_at o ∙ ap (after_take slot o) view
+
+  pub joined_unmarked : AreJoined routes numbers table → (table2 : Table) → table2 ≡ tables.unmarked slot table → AreJoined routes numbers table2
+  joined_unmarked joined table2 is = subst (λ (t : Table). AreJoined routes numbers t) (sym is) (record { once = joined.once; counted = joined.counted; announced = joined.announced; given = joined.given })
+
+  unmarked_at : bases_of routes numbers (tables.unmarked slot table) ≡ after_clean slot (bases_of routes numbers table)
+  unfolding bases_of
+  unmarked_at = refl
+
+  pub bases_unmarked : (table2 : Table) → table2 ≡ tables.unmarked slot table → (b : Bases) → bases_of routes numbers table ≡ b → bases_of routes numbers table2 ≡ after_clean slot b
+  bases_unmarked table2 is b view = ap (bases_of routes numbers) is ∙ unmarked_at ∙ ap (after_clean slot) view
 
 -- ---- the announcements of a slot go
 

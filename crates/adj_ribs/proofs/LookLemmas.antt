@@ -23,7 +23,7 @@ use Rattle.route_store.proofs.AnnouncerLemmas.{find-announcers, rising-announcer
 use Rattle.out_table.specs.Tables as tables
 use Rattle.out_table.proofs.RisingLemmas.{back}
 use Rattle.out_table.specs.Tables.{Table}
-use Rattle.adj_ribs.specs.Bases.{Bases, AreNumbered, is_dirty, IsLeastDirty}
+use Rattle.adj_ribs.specs.Bases.{Bases, AreNumbered, is_dirty, IsLeastDirty, IsNextDirty}
 use Rattle.adj_ribs.specs.Joins.{route_in, routes_of, bases_of, AreOpened}
 use Rattle.adj_ribs.proofs.RouteLemmas.{get_routes, in_route, one_number}
 use Rattle.adj_ribs.proofs.JoinLemmas.{announced_is, given_is}
@@ -136,6 +136,12 @@ dirty_is table b slot result same least =
     least_is (tables.is_dirty table slot) (λ q. is_dirty b slot q ≡ true)
     (λ q e. ap (λ (m : set_of.FinSet rib_cmp). set_of.contains m (q, slot)) (sym same) ∙ e)
     (λ q e. ap (λ (m : set_of.FinSet rib_cmp). set_of.contains m (q, slot)) same ∙ e) result least
+
+pub next_dirty_is : (table : Table) (b : Bases) (slot : ℕ) (after result : Option IpPrefix) → table.dirty ≡ b.dirty → tables.IsLeast (λ q. tables.is_after after q && tables.is_dirty table slot q) result → IsNextDirty b slot after result
+next_dirty_is table b slot after result same least =
+    least_is (λ q. tables.is_after after q && tables.is_dirty table slot q) (λ q. assigned.IsAfter after q × (is_dirty b slot q ≡ true))
+    (λ q e. let parts = and_parts (tables.is_after after q) (tables.is_dirty table slot q) e in (later_is after q parts.0, ap (λ (m : set_of.FinSet rib_cmp). set_of.contains m (q, slot)) (sym same) ∙ parts.1))
+    (λ q holds. and_from (tables.is_after after q) (tables.is_dirty table slot q) (is_later after q holds.0) (ap (λ (m : set_of.FinSet rib_cmp). set_of.contains m (q, slot)) same ∙ holds.1)) result least
 
 -- ---- the announcers of a prefix
 

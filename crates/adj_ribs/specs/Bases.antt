@@ -69,6 +69,10 @@ IsNextGiven bases slot after next = IsLeast (λ q. IsAfter after q × IsSome (gi
 abbrev pub IsLeastDirty : Bases → ℕ → Option IpPrefix → Type 0
 IsLeastDirty bases slot least = IsLeast (λ q. is_dirty bases slot q ≡ true) least
 
+-- the least prefix after the given one at which this slot's cell is dirty
+abbrev pub IsNextDirty : Bases → ℕ → Option IpPrefix → Option IpPrefix → Type 0
+IsNextDirty bases slot after next = IsLeast (λ q. IsAfter after q × (is_dirty bases slot q ≡ true)) next
+
 -- ---- numbers
 
 -- A number stands where a route does, and two of the numbers are the same exactly where the routes are.
@@ -128,6 +132,10 @@ after_clear slot bases = record bases {
   dirty = set_of.retain bases.dirty (λ key. not (key.1 == slot));
   cell_numbers = without_slot slot bases.cell_numbers;
 }
+
+-- the cells of a slot are clean
+abbrev pub after_clean : ℕ → Bases → Bases
+after_clean slot bases = record bases { dirty = set_of.retain bases.dirty (λ key. not (key.1 == slot)) }
 
 -- the cell at the prefix is clean, where there is one
 abbrev pub after_take : ℕ → Option IpPrefix → Bases → Bases

@@ -7,7 +7,8 @@
 //! - `announce` sets one announcement and opens its prefix; `withdraw` and `drop_all` take out what they say. They leave the cells as they are.
 //! - `set_cell` gives a slot what a router announces at a prefix, or nothing, and makes the cell dirty exactly where its route
 //!   changes. `clear` empties and cleans the cells of a slot.
-//! - `take_dirty` gives the least dirty prefix of a slot and cleans it; `least_dirty` gives the same and cleans nothing.
+//! - `take_dirty` gives the least dirty prefix of a slot and cleans it; `least_dirty` gives the same and cleans nothing. `next_dirty` gives
+//!   the dirty cells of a slot in their order, one after another, through `&`, and `clean` cleans them all.
 //! - Two announcements, and two cells, have one number exactly where they have one route.
 //! - Only `new` and `announce` take memory, and after `NoMemory` all is as before.
 //!

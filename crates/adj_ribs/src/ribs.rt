@@ -6,7 +6,7 @@ ghost use Rattle.std.specs.FinMap as map_of;
 ghost use Rattle.std.specs.FinSet as set_of;
 ghost use Rattle.rcp_model.specs.Ribs.{RibKey};
 ghost use Rattle.rcp_model.specs.ServerRibs.{prefixes_of};
-ghost use Rattle.adj_ribs.specs.Bases.{no_bases, announced_at, given_at, is_opened, is_dirty, is_same, IsNextAnnounced, IsNextOf, IsNextGiven, IsLeastDirty, AreNumbered, IsNumber, IsAnnouncer, route_of, after_change, after_open, after_drop, after_set, after_clear, after_take};
+ghost use Rattle.adj_ribs.specs.Bases.{no_bases, announced_at, given_at, is_opened, is_dirty, is_same, IsNextAnnounced, IsNextOf, IsNextGiven, IsLeastDirty, IsNextDirty, AreNumbered, IsNumber, IsAnnouncer, route_of, after_change, after_open, after_drop, after_set, after_clear, after_clean, after_take};
 
 use crate::uses::{number_of, prefix_of, release, retain};
 use attr_store::AttrStore;
@@ -225,17 +225,33 @@ impl AdjRibs {
         prefix_of(&self.table.least_dirty(slot))
     }
 
-    /// The least dirty prefix of a slot, with what the slot is given there. It takes constant time.
-    pub fn dirty_cell(&self, slot: Slot) -> Option<(Prefix, Option<&Route>)>
+    /// The least dirty prefix of a slot after the given one, or of all, with what the slot is given there. None exactly where there is none.
+    ///
+    /// It takes a constant time where `passed` is the number of the slot's dirty prefixes up to the given one, and else about the
+    /// logarithm of the number of its dirty prefixes. What it answers doesn't depend on `passed`.
+    pub fn next_dirty(
+        &self,
+        slot: Slot,
+        after: Option<Prefix>,
+        passed: usize,
+    ) -> Option<(Prefix, Option<&Route>)>
         requires { slot < self.now.members }
-        ensures least { IsLeastDirty self.now slot (option_map (λ found. found.0) result) }
+        ensures next { IsNextDirty self.now slot after (option_map (λ found. found.0) result) }
         ensures route { IfSome result (λ found. option_map (λ route. route.now) found.1 ≡ given_at self.now slot found.0) }
     {
-        let (p, number) = self.table.least_dirty(slot)?;
+        let (p, number) = self.table.next_dirty(slot, after, passed)?;
         match number {
             Some(number) => Some((p, Some(self.routes.get(number)))),
             None => Some((p, None)),
         }
+    }
+
+    /// Leaves each cell of a slot clean. What the slot is given stays.
+    pub fn clean(&mut self, slot: Slot)
+        requires { slot < self.old.members }
+        ensures { self.new ≡ after_clean slot self.old }
+    {
+        self.table.clean(slot);
     }
 
     /// The least prefix after the given one at which a slot is given a route, or the least of all where none is given. None exactly where there is none.

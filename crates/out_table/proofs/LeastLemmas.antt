@@ -1,5 +1,5 @@
 -- The first place in the order of prefixes that passes a test is the least one.
-use Rattle.std.proofs.Common.{◌≡◌, ℕ, Bool, true, false, cond, ◌&&◌, List, [], ◌∷◌, filter, find, slice_get, Option, Some, None, is_some, refl, sym, ap, subst, ◌∙◌}
+use Rattle.std.proofs.Common.{◌≡◌, ℕ, zero, suc, ◌<◌, ◌≤◌, Bool, true, false, cond, ◌&&◌, ◌||◌, List, [], ◌∷◌, length, filter, find, slice_get, Option, Some, None, IfSome, is_some, refl, sym, ap, subst, ◌∙◌, arith}
 use Rattle.std.specs.List.{AllByRecursion}
 use Rattle.std.specs.Map.{keys_of}
 use Rattle.std.specs.List.Sorted.{IsStrictlySortedBy}
@@ -11,12 +11,13 @@ use Rattle.std.proofs.lemmas.Cmp.{tied_back}
 use Rattle.std.proofs.lemmas.Option.{none-some}
 use Rattle.rcp_base.specs.IpPrefix.{IpPrefix, prefix_cmp}
 use Rattle.rcp_model.proofs.RibLemmas.{prefix_total}
-use Rattle.out_table.specs.Cells.{Cells, number_at}
-use Rattle.out_table.specs.Tables.{Table, cell, is_opened, IsLeast, is_after}
-use Rattle.out_table.specs.Places.{Place, place_of, cells_at, places_after, IsKept, table_of}
+use Rattle.std.proofs.lemmas.List.{get_or_past}
+use Rattle.out_table.specs.Cells.{Cells, no_cells, number_at}
+use Rattle.out_table.specs.Tables.{Table, cell, is_opened, is_dirty, IsLeast, is_after}
+use Rattle.out_table.specs.Places.{Place, place_of, prefix_in, cells_at, places_after, is_listed, IsRising, IsPassed, IsKept, table_of}
 use Rattle.out_table.proofs.RisingLemmas.{is_equal}
-use Rattle.out_table.proofs.EntryLemmas.{none_later, sorted_later, sorted_above, opened_is}
-use Rattle.out_table.proofs.TableLemmas.{itself, tied_same}
+use Rattle.out_table.proofs.EntryLemmas.{none_later, sorted_later, sorted_above, opened_is, dirty_is}
+use Rattle.out_table.proofs.TableLemmas.{itself, tied_same, first_listed, first_least}
 use Rattle.out_table.proofs.FoundLemmas.{cell_by}
 
 -- whether a prefix has a place that passes
@@ -133,3 +134,60 @@ pub number_by : (t : Table) (members : ℕ) (places : List Place) (prefixes : Li
     → (i slot : ℕ) → i ≡ slot → (q : IpPrefix) → passes (λ k. is_some (number_at k (cells_at i columns).numbers)) q places ≡ is_some (cell t slot q)
 number_by t members places prefixes columns is sorted i slot at q =
     number_passes (cells_at i columns).numbers (place_of q places) ∙ ap is_some (sym (cell_by t members places prefixes columns is sorted i slot at q))
+
+-- ---- the next of the dirty places
+
+or_none : (low : IpPrefix → Bool) (prefixes : List IpPrefix) (place : ℕ) (later : List ℕ) → low (prefix_in prefixes place) ≡ false → (q : IpPrefix)
+    → (low q && is_listed q prefixes later) ≡ (low q && is_listed q prefixes (place ∷ later))
+or_none low prefixes place later fails q = by_test (eq_by_cmp prefix_cmp q (prefix_in prefixes place)) refl where
+  by_test : (t : Bool) → eq_by_cmp prefix_cmp q (prefix_in prefixes place) ≡ t → (low q && is_listed q prefixes later) ≡ (low q && (t || is_listed q prefixes later))
+  by_test true tied = let none : low q ≡ false = ap low (tied_same (prefix_in prefixes place) q tied) ∙ fails in
+      ap (λ (t : Bool). t && is_listed q prefixes later) none ∙ sym (ap (λ (t : Bool). t && true) none)
+  by_test false apart = refl
+
+tail_passed : (p : IpPrefix) (prefixes : List IpPrefix) (place : ℕ) (later : List ℕ) (count : ℕ) → IsPassed p prefixes (place ∷ later) (suc count) → IsPassed p prefixes later count
+tail_passed p prefixes place later count is = record {
+  before = λ k low within. is.before (suc k) (omega arith) (omega arith);
+  after = λ k from within. is.after (suc k) (omega arith) (omega arith);
+}
+
+after_lt : (p q : IpPrefix) → is_after (Some p) q ≡ is_lt (prefix_cmp p q)
+after_lt p q = refl
+
+pub passed_least : (p : IpPrefix) (prefixes : List IpPrefix) (dirty : List ℕ) (count : ℕ) → IsRising prefixes dirty → IsPassed p prefixes dirty count
+    → IsLeast (λ q. is_after (Some p) q && is_listed q prefixes dirty) (option_map (prefix_in prefixes) (slice_get dirty count))
+passed_least p prefixes [] count rising is = λ q. and_right (is_after (Some p) q) false refl
+passed_least p prefixes (place ∷ later) zero rising is = (
+  ap (λ (t : Bool). t && is_listed (prefix_in prefixes place) prefixes (place ∷ later)) (is.after 0 (omega arith) (omega arith)) ∙ first_listed prefixes place later,
+  λ q passing. first_least q prefixes place later rising (and_parts (is_after (Some p) q) (is_listed q prefixes (place ∷ later)) passing).1,
+)
+passed_least p prefixes (place ∷ later) (suc count) rising is =
+    least_same (λ q. is_after (Some p) q && is_listed q prefixes later) (λ q. is_after (Some p) q && is_listed q prefixes (place ∷ later)) (option_map (prefix_in prefixes) (slice_get later count))
+    (or_none (is_after (Some p)) prefixes place later (is.before 0 (omega arith) (omega arith)))
+    (passed_least p prefixes later count rising.1 (tail_passed p prefixes place later count is))
+
+-- the first of all
+pub first_of_all : (prefixes : List IpPrefix) (dirty : List ℕ) → IsRising prefixes dirty → IsLeast (λ q. is_after None q && is_listed q prefixes dirty) (option_map (prefix_in prefixes) (slice_get dirty 0))
+first_of_all prefixes [] rising = λ q. refl
+first_of_all prefixes (place ∷ later) rising = (first_listed prefixes place later, λ q passing. first_least q prefixes place later rising passing)
+
+-- a place of the list is that of a prefix
+pub place_within : (prefixes : List IpPrefix) (dirty : List ℕ) (count : ℕ) → AllByRecursion (λ place. place < length prefixes) dirty → IfSome (slice_get dirty count) (λ place. place < length prefixes)
+place_within prefixes [] count below = tt
+place_within prefixes (place ∷ later) zero below = below.0
+place_within prefixes (place ∷ later) (suc count) below = place_within prefixes later count below.1
+
+-- the same for a slot of the table
+pub next_listed : (t : Table) (members : ℕ) (places : List Place) (prefixes : List IpPrefix) (columns : List Cells) → table_of members places prefixes columns ≡ t
+    → (i slot : ℕ) → i ≡ slot → (after found : Option IpPrefix)
+    → IsLeast (λ q. is_after after q && is_listed q prefixes (cells_at i columns).dirty) found → IsLeast (λ q. is_after after q && is_dirty t slot q) found
+next_listed t members places prefixes columns is i slot at after found least =
+    least_same (λ q. is_after after q && is_listed q prefixes (cells_at i columns).dirty) (λ q. is_after after q && is_dirty t slot q) found
+    (λ q. ap (λ (b : Bool). is_after after q && b) (ap (λ (s : ℕ). is_listed q prefixes (cells_at s columns).dirty) at ∙ sym (dirty_is members places prefixes columns slot q) ∙ ap (λ (u : Table). is_dirty u slot q) is)) least
+
+-- a slot without cells
+pub next_past : (t : Table) (members : ℕ) (places : List Place) (prefixes : List IpPrefix) (columns : List Cells) → table_of members places prefixes columns ≡ t
+    → (i slot : ℕ) → i ≡ slot → length columns ≤ i → (after : Option IpPrefix) → IsLeast (λ q. is_after after q && is_dirty t slot q) None
+next_past t members places prefixes columns is i slot at past after =
+    next_listed t members places prefixes columns is i slot at after None
+    (λ q. and_right (is_after after q) _ (ap (λ (v : Cells). is_listed q prefixes v.dirty) (get_or_past columns i no_cells past)))

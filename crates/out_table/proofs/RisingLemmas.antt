@@ -5,7 +5,7 @@ use Rattle.std.specs.List.Sorted.{IsSortedBy, IsNonDecreasingBy, IsBinarySearchR
 use Rattle.std.specs.Ordering.{is_lt, is_eq, eq_by_cmp, ordering_index, ordering_reverse}
 use Rattle.std.specs.declared.cmp.Ordering.{Ordering}
 use Rattle.std.specs.declared.cmp.Ordering.TheVariants.{Less, Equal, Greater}
-use Rattle.std.proofs.lemmas.Bool.{cond-true, false≢true, lt-ltb, ltb-true, ltb-false, or_right, or_left, cases_eq}
+use Rattle.std.proofs.lemmas.Bool.{cond-true, false≢true, lt-ltb, ltb-true, ltb-false, or_right, or_left, cases_eq, cases_lt}
 use Rattle.std.proofs.lemmas.Cmp.{tied_itself, tied_back}
 use Rattle.std.proofs.lemmas.List.Kept.{AllPairs-cons}
 use Rattle.std.proofs.lemmas.List.Elements.{All-from_recursion}
@@ -17,7 +17,7 @@ use Rattle.rcp_model.proofs.RibLemmas.{prefix_total, prefix_exact}
 use Rattle.rcp_model.proofs.GraphLemmas.{apart_within}
 use Rattle.rcp_model.proofs.MemberLemmas.{Contains-head, Contains-tail, Contains-cases}
 use Rattle.out_table.specs.Cells.{Cells}
-use Rattle.out_table.specs.Places.{prefix_in, order_in, IsRising, IsGap, is_listed, AreKept, Sets}
+use Rattle.out_table.specs.Places.{prefix_in, order_in, IsRising, IsGap, IsPassed, is_listed, AreKept, Sets}
 
 -- ---- the order by places
 
@@ -78,6 +78,37 @@ searched_gap p prefixes dirty below rising (Err k) bound result =
       before = λ i less. sym (order_in_is prefixes p (get_or dirty i 0) (all i 0 (omega arith))) ∙ parts.0 i 0 (omega arith) less;
       after = λ i from within. sym (order_in_is prefixes p (get_or dirty i 0) (all i 0 within)) ∙ parts.1 i 0 from within;
     }
+
+-- up to the prefix of a place
+pub passed_at : (p : IpPrefix) (prefixes : List IpPrefix) (dirty : List ℕ) (k : ℕ) → IsRising prefixes dirty → k < length dirty → prefix_cmp (prefix_in prefixes (get_or dirty k 0)) p ≡ Equal → IsPassed p prefixes dirty (k + 1)
+passed_at p prefixes dirty k rising within tied =
+    subst (λ (q : IpPrefix). IsPassed q prefixes dirty (k + 1)) (prefix_exact (prefix_in prefixes (get_or dirty k 0)) p tied)
+    (record {
+      before = λ i low inside. up_to i inside (cases_eq i k) low;
+      after = λ i from inside. ap is_lt (rising_pairs prefixes dirty rising k i 0 (omega arith) inside);
+    }) where
+      less : (i k : ℕ) → i ≢ k → i < k + 1 → i < k
+      less i k other low = elim (cases_lt i k) [ inl below ↦ below | inr above ↦ absurd (other (omega (arith, low, above))) ]
+
+      up_to : (i : ℕ) → i < length dirty → (i ≡ k) ⊎ (i ≢ k) → i < k + 1 → is_lt (prefix_cmp (prefix_in prefixes (get_or dirty k 0)) (prefix_in prefixes (get_or dirty i 0))) ≡ false
+      up_to i inside (inl same) low = subst (λ (j : ℕ). is_lt (prefix_cmp (prefix_in prefixes (get_or dirty k 0)) (prefix_in prefixes (get_or dirty j 0))) ≡ false) (sym same) (ap is_lt (tied_itself prefix_total (prefix_in prefixes (get_or dirty k 0))))
+      up_to i inside (inr other) low = not_back (prefix_in prefixes (get_or dirty i 0)) (prefix_in prefixes (get_or dirty k 0)) (rising_pairs prefixes dirty rising i k 0 (less i k other low) within)
+
+-- up to a prefix that isn't there
+pub passed_gap : (p : IpPrefix) (prefixes : List IpPrefix) (dirty : List ℕ) (gap : ℕ) → IsGap p prefixes dirty gap → IsPassed p prefixes dirty gap
+passed_gap p prefixes dirty gap is = record {
+  before = λ k low inside. not_back (prefix_in prefixes (get_or dirty k 0)) p (is.before k low);
+  after = λ k from inside. ap is_lt (prefix_total.antisymm p (prefix_in prefixes (get_or dirty k 0)) ∙ ap ordering_reverse (is.after k from inside));
+}
+
+-- what a search passes
+pub searched_passed : (p : IpPrefix) (prefixes : List IpPrefix) (dirty : List ℕ) → AllByRecursion (λ place. place < length prefixes) dirty → IsRising prefixes dirty
+    → (r : Result ℕ ℕ) → IsSearchInRange r (length dirty) → IsBinarySearchResult (order_in prefixes p) dirty r
+    → MatchResult r (λ n. IsPassed p prefixes dirty (n + 1)) (IsPassed p prefixes dirty)
+searched_passed p prefixes dirty below rising (Ok k) bound result =
+    let all = All-from_recursion (λ place. place < length prefixes) dirty below in
+    passed_at p prefixes dirty k rising bound (sym (order_in_is prefixes p (get_or dirty k 0) (all k 0 bound)) ∙ result 0)
+searched_passed p prefixes dirty below rising (Err k) bound result = passed_gap p prefixes dirty k (searched_gap p prefixes dirty below rising (Err k) bound result)
 
 -- above the last one
 pub last_gap : (p : IpPrefix) (prefixes : List IpPrefix) (dirty : List ℕ) → IsRising prefixes dirty → 0 < length dirty

@@ -17,7 +17,7 @@ use Rattle.rcp_base.specs.IpPrefix.{IpPrefix, prefix_cmp}
 use Rattle.rcp_model.specs.Ribs.{RibKey, rib_cmp, RouteNumbers, route_no_of}
 use Rattle.rcp_model.proofs.RibLemmas.{prefix_total, prefix_exact, rib_total, rib_exact, rib_tied}
 use Rattle.out_table.specs.Cells.{Cells, no_number, no_cells, number_at, held_for, is_same, first_of}
-use Rattle.out_table.specs.Tables.{Table, cell, is_opened, is_dirty, with_number, after_set, cleaned, cleared, IsLeast}
+use Rattle.out_table.specs.Tables.{Table, cell, is_opened, is_dirty, with_number, after_set, cleaned, unmarked, cleared, IsLeast}
 use Rattle.out_table.specs.Places.{Place, place_of, prefix_in, AreInverse, cells_at, number_of, is_listed, IsRising, AreKept, IsKept, Sets, table_of}
 use Rattle.out_table.proofs.RisingLemmas.{is_equal, less_not_equal}
 use Rattle.out_table.proofs.EntryLemmas.{cell_is, dirty_is, opened_is, same_table}
@@ -179,7 +179,7 @@ listed_above q prefixes place (other ∷ later) above listed = elim (or_cases (e
 pub first_listed : (prefixes : List IpPrefix) (place : ℕ) (later : List ℕ) → is_listed (prefix_in prefixes place) prefixes (place ∷ later) ≡ true
 first_listed prefixes place later = or_left (eq_by_cmp prefix_cmp (prefix_in prefixes place) (prefix_in prefixes place)) (is_listed (prefix_in prefixes place) prefixes later) (itself (prefix_in prefixes place))
 
-first_least : (q : IpPrefix) (prefixes : List IpPrefix) (place : ℕ) (later : List ℕ) → IsRising prefixes (place ∷ later) → is_listed q prefixes (place ∷ later) ≡ true → is_le (prefix_cmp (prefix_in prefixes place) q) ≡ true
+pub first_least : (q : IpPrefix) (prefixes : List IpPrefix) (place : ℕ) (later : List ℕ) → IsRising prefixes (place ∷ later) → is_listed q prefixes (place ∷ later) ≡ true → is_le (prefix_cmp (prefix_in prefixes place) q) ≡ true
 first_least q prefixes place later rising listed = elim (or_cases (eq_by_cmp prefix_cmp q (prefix_in prefixes place)) (is_listed q prefixes later) listed) [
   | inl tied ↦ ap is_le (tied_back prefix_total q (prefix_in prefixes place) (is_equal (prefix_cmp q (prefix_in prefixes place)) tied))
   | inr rest ↦ ap is_le (listed_above q prefixes place later rising.0 rest)
@@ -346,6 +346,43 @@ clear_past members room slot places prefixes columns kept past =
       cells_same s q (inl same) =
           subst (λ (n : ℕ). cell before n q ≡ None) (sym same) (none q) ∙ sym (cond-false (not (eqb s slot)) (cell before s q) None (ap not (eq-eqb s slot same)))
       cells_same s q (inr other) = sym (cond-true (not (eqb s slot)) (cell before s q) None (ap not (ne_eqb s slot other)))
+
+      dirty_same : (s : ℕ) (q : IpPrefix) → (s ≡ slot) ⊎ (s ≢ slot) → is_dirty before s q ≡ (is_dirty before s q && not (eqb s slot))
+      dirty_same s q (inl same) =
+          subst (λ (n : ℕ). is_dirty before n q ≡ false) (sym same) (clean q) ∙ sym (and_right (is_dirty before s q) (not (eqb s slot)) (ap not (eq-eqb s slot same)))
+      dirty_same s q (inr other) = sym (and_true_right (is_dirty before s q) (not (eqb s slot)) (ap not (ne_eqb s slot other)))
+
+-- ---- the cells of a slot are cleaned
+
+dirty-unmarked : (slot s : ℕ) (q : IpPrefix) (t : Table) → is_dirty (unmarked slot t) s q ≡ (is_dirty t s q && not (eqb s slot))
+dirty-unmarked slot s q t = set_of.contains-retain t.dirty (λ key. not (eqb key.1 slot)) (q, s) (λ key tied. same_slot slot (q, s) key tied)
+
+pub table-clean : (members room slot : ℕ) (places : List Place) (prefixes : List IpPrefix) (columns : List Cells) (new : Cells) → IsKept members room places prefixes columns → slot < length columns
+    → new ≡ record { numbers = (cells_at slot columns).numbers; dirty = [] } → table_of members places prefixes (set columns slot new) ≡ unmarked slot (table_of members places prefixes columns)
+table-clean members room slot places prefixes columns new kept within is =
+    table_column members slot places prefixes columns new (unmarked slot before) kept.inverse.sorted within refl (λ q. refl)
+    (λ q. ap (λ (v : Cells). number_of q places v.numbers) is ∙ sym (cell_is members places prefixes columns kept.inverse.sorted slot q))
+    (λ s q other. sym (cell_is members places prefixes columns kept.inverse.sorted s q))
+    (λ q. ap (λ (v : Cells). is_listed q prefixes v.dirty) is
+    ∙ sym (dirty-unmarked slot slot q before ∙ and_right (is_dirty before slot q) (not (eqb slot slot)) (ap not (eq-eqb slot slot refl))))
+    (λ s q other. sym (dirty-unmarked slot s q before ∙ and_true_right (is_dirty before s q) (not (eqb s slot)) (ap not (ne_eqb s slot other)) ∙ dirty_is members places prefixes columns s q)) where
+      before : Table
+      before = table_of members places prefixes columns
+
+pub kept-clean : (room : ℕ) (prefixes : List IpPrefix) (old new : Cells) → AreKept room prefixes old → new ≡ record { numbers = old.numbers; dirty = [] } → AreKept room prefixes new
+kept-clean room prefixes old new kept is = subst (AreKept room prefixes) (sym is) (record { long = kept.long; unused = kept.unused; below = tt; rising = tt })
+
+-- a slot without cells is clean
+pub clean_past : (members slot : ℕ) (places : List Place) (prefixes : List IpPrefix) (columns : List Cells) → IsStrictlySortedBy prefix_cmp (keys_of places) → length columns ≤ slot
+    → table_of members places prefixes columns ≡ unmarked slot (table_of members places prefixes columns)
+clean_past members slot places prefixes columns sorted past =
+    same_table before (unmarked slot before) refl (λ q. refl) (λ s q. refl)
+    (λ s q. dirty_same s q (cases_eq s slot) ∙ sym (dirty-unmarked slot s q before)) where
+      before : Table
+      before = table_of members places prefixes columns
+
+      clean : (q : IpPrefix) → is_dirty before slot q ≡ false
+      clean q = dirty_is members places prefixes columns slot q ∙ ap (λ (v : Cells). is_listed q prefixes v.dirty) (get_or_past columns slot no_cells past)
 
       dirty_same : (s : ℕ) (q : IpPrefix) → (s ≡ slot) ⊎ (s ≢ slot) → is_dirty before s q ≡ (is_dirty before s q && not (eqb s slot))
       dirty_same s q (inl same) =

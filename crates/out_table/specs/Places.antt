@@ -1,5 +1,5 @@
 -- How a table is kept: a place for each opened prefix, and for each slot its cells by place.
-use Rattle.std.specs.Prelude.{◌≡◌, ⊤, ℕ, ◌+◌, ◌<◌, ◌≤◌, Bool, List, [], ◌∷◌, ◌++◌, length, map, slice_index_or, slice_set, ◌&&◌, ◌||◌, Option, Some, None, nat_lt, if◌then◌else◌}
+use Rattle.std.specs.Prelude.{◌≡◌, ⊤, ℕ, ◌+◌, ◌<◌, ◌≤◌, Bool, true, false, List, [], ◌∷◌, ◌++◌, length, map, slice_index_or, slice_set, ◌&&◌, ◌||◌, Option, Some, None, nat_lt, if◌then◌else◌}
 use Rattle.std.specs.List.{AllByRecursion, list_any}
 use Rattle.std.specs.Map.{keys_of, lookup}
 use Rattle.std.specs.BTreeMap.Range.{entries_between}
@@ -8,7 +8,7 @@ use Rattle.std.specs.List.Sorted.{IsStrictlySortedBy}
 use Rattle.std.specs.FinMap as map_of
 use Rattle.std.specs.FinSet as set_of
 use Rattle.std.specs.Option.{option_and_then}
-use Rattle.std.specs.Ordering.{eq_by_cmp}
+use Rattle.std.specs.Ordering.{is_lt, eq_by_cmp}
 use Rattle.std.specs.declared.cmp.Ordering.{Ordering}
 use Rattle.std.specs.declared.cmp.Ordering.TheVariants.{Less, Greater}
 use Rattle.rcp_base.specs.IpPrefix.{IpPrefix, prefix_cmp}
@@ -65,6 +65,11 @@ pub record IsGap (p : IpPrefix) (prefixes : List IpPrefix) (dirty : List ℕ) (g
   pub within : gap ≤ length dirty
   pub before : (k : ℕ) → k < gap → prefix_cmp (prefix_in prefixes (slice_index_or dirty k 0)) p ≡ Less
   pub after : (k : ℕ) → gap ≤ k → k < length dirty → prefix_cmp (prefix_in prefixes (slice_index_or dirty k 0)) p ≡ Greater
+
+-- so many of the first places of the list are of prefixes up to this one, and the others of prefixes after it
+pub record IsPassed (p : IpPrefix) (prefixes : List IpPrefix) (dirty : List ℕ) (count : ℕ) : Type 0 where
+  pub before : (k : ℕ) → k < count → k < length dirty → is_lt (prefix_cmp p (prefix_in prefixes (slice_index_or dirty k 0))) ≡ false
+  pub after : (k : ℕ) → count ≤ k → k < length dirty → is_lt (prefix_cmp p (prefix_in prefixes (slice_index_or dirty k 0))) ≡ true
 
 -- what the cells of each slot keep: a cell for each place there is room for, and no route where no prefix has the place
 pub record AreKept (room : ℕ) (prefixes : List IpPrefix) (cells : Cells) : Type 0 where

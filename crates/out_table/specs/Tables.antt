@@ -57,6 +57,10 @@ abbrev pub cleaned : ℕ → Option IpPrefix → Table → Table
 cleaned slot None t = t
 cleaned slot (Some p) t = record t { dirty = set_of.remove t.dirty (p, slot) }
 
+-- the cells of a slot are clean
+abbrev pub unmarked : ℕ → Table → Table
+unmarked slot t = record t { dirty = set_of.retain t.dirty (λ key. not (key.1 == slot)) }
+
 -- the cells of a slot have no route and are clean
 abbrev pub cleared : ℕ → Table → Table
 cleared slot t =

@@ -1,9 +1,11 @@
 //! The cells of all slots, and which of them are dirty.
 
-ghost use Rattle.std.specs.Prelude.{◌≡◌, ℕ, ◌<◌, ◌≤◌, ◌*◌, ◌-◌, ◌^◌, [], length, drop, insert, slice_set, replicate, true, not, is_some, OnOk, IfSome, MatchOption};
+ghost use Rattle.std.specs.Prelude.{◌≡◌, ℕ, ◌<◌, ◌≤◌, ◌*◌, ◌-◌, ◌^◌, [], length, drop, insert, slice_set, replicate, true, not, is_some, OnOk, IfSome, MatchOption, ◌&&◌};
+ghost use Rattle.std.specs.Option.{option_map};
 ghost use Rattle.std.specs.List.{AllByRecursion};
 ghost use Rattle.out_table.specs.Cells.{no_number, held_for, number_at, is_same, first_of};
-ghost use Rattle.out_table.specs.Places.{cells_at, IsRising, IsGap, is_listed, KeepsAll};
+ghost use Rattle.out_table.specs.Tables.{IsLeast, is_after};
+ghost use Rattle.out_table.specs.Places.{cells_at, prefix_in, IsRising, IsGap, is_listed, KeepsAll};
 ghost use Rattle.out_table.specs.Columns.{index_of, Empties};
 
 use crate::dirty::Dirty;
@@ -157,6 +159,24 @@ impl Columns {
         self.dirty[slot].first()
     }
 
+    /// The dirty place of a slot that is of the least prefix after the given one, or of all. It takes a constant time where so many
+    /// of the slot's dirty places are of prefixes up to the given one as `passed` says.
+    pub fn next_dirty(
+        &self,
+        slot: usize,
+        prefixes: &[Prefix],
+        after: Option<Prefix>,
+        passed: usize,
+    ) -> Option<u32>
+        requires slot { slot < length self.now.items }
+        requires below { AllByRecursion (λ place. place < length prefixes.now) (cells_at slot self.now.items).dirty }
+        requires rising { IsRising prefixes.now (cells_at slot self.now.items).dirty }
+        ensures least { IsLeast (λ q. is_after after q && is_listed q prefixes.now (cells_at slot self.now.items).dirty) (option_map (prefix_in prefixes.now) result) }
+        ensures within { IfSome result (λ place. place < length prefixes.now) }
+    {
+        self.dirty[slot].next(prefixes, after, passed)
+    }
+
     /// Takes the first of the dirty places of a slot away, and answers it.
     pub fn take_first(&mut self, slot: usize) -> Option<u32>
         requires { slot < length self.old.items }
@@ -165,6 +185,15 @@ impl Columns {
     {
         let dirty = &mut self.dirty[slot];
         dirty.take_first()
+    }
+
+    /// Leaves every cell of a slot clean.
+    pub fn clean(&mut self, slot: usize)
+        requires { slot < length self.old.items }
+        ensures { self.new ≡ record self.old { items = slice_set self.old.items slot (record (cells_at slot self.old.items) { dirty = [] }) } }
+    {
+        let dirty = &mut self.dirty[slot];
+        dirty.clear();
     }
 
     /// Leaves every cell of a slot without a route and clean.

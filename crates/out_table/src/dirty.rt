@@ -1,10 +1,14 @@
 //! Which cells of one slot are dirty.
 
-ghost use Rattle.std.specs.Prelude.{◌≡◌, ◌<◌, ◌≤◌, [], length, drop, insert, true, OnOk, MatchOption};
+ghost use Rattle.std.specs.Prelude.{◌≡◌, ◌<◌, ◌≤◌, ◌&&◌, [], length, drop, insert, slice_get, slice_index_or, true, IsTrue, OnOk, IfSome, MatchOption};
+ghost use Rattle.std.specs.Option.{option_map};
+ghost use Rattle.std.specs.declared.cmp.Ordering.TheVariants.{Equal};
+ghost use Rattle.rcp_base.specs.IpPrefix.{prefix_cmp};
 ghost use Rattle.std.specs.List.{AllByRecursion};
 ghost use Rattle.out_table.specs.Cells.{first_of};
 ghost use Rattle.out_table.specs.Columns.{no_dirty};
-ghost use Rattle.out_table.specs.Places.{IsRising, IsGap, is_listed};
+ghost use Rattle.out_table.specs.Tables.{IsLeast, is_after};
+ghost use Rattle.out_table.specs.Places.{IsRising, IsGap, IsPassed, is_listed, prefix_in};
 
 use crate::marks::order_at;
 use rcp_base::{NoMemory, Prefix};
@@ -96,6 +100,57 @@ impl Dirty {
         ensures { result ≡ first_of self.now.places }
     {
         self.places.front().copied()
+    }
+
+    /// The dirty place of the least prefix after the given one, or of all. Where the places up to the given prefix are as many as
+    /// `passed` says, it takes a constant time, and else about the logarithm of the number of places.
+    pub fn next(&self, prefixes: &[Prefix], after: Option<Prefix>, passed: usize) -> Option<u32>
+        requires below { AllByRecursion (λ place. place < length prefixes.now) self.now.places }
+        requires rising { IsRising prefixes.now self.now.places }
+        ensures least { IsLeast (λ q. is_after after q && is_listed q prefixes.now self.now.places) (option_map (prefix_in prefixes.now) result) }
+        ensures within { IfSome result (λ place. place < length prefixes.now) }
+    {
+        let count = match after {
+            None => 0,
+            Some(p) => self.count_to(prefixes, &p, passed),
+        };
+        self.nth(count)
+    }
+
+    /// The dirty place of a number.
+    fn nth(&self, n: usize) -> Option<u32>
+        ensures { result ≡ slice_get self.now.places n }
+    {
+        self.places.get(n).copied()
+    }
+
+    /// How many of the dirty places are of prefixes up to this one. A guess is tried first.
+    fn count_to(&self, prefixes: &[Prefix], p: &Prefix, guess: usize) -> usize
+        requires below { AllByRecursion (λ place. place < length prefixes.now) self.now.places }
+        requires rising { IsRising prefixes.now self.now.places }
+        ensures { IsPassed p.now prefixes.now self.now.places result }
+    {
+        if guess > 0 && self.is_at(prefixes, guess - 1, p) {
+            return guess;
+        }
+        match self
+            .places
+            .binary_search_by(|place| order_at(prefixes, *place, p))
+        {
+            Ok(n) => n + 1,
+            Err(n) => n,
+        }
+    }
+
+    /// Whether the dirty place of a number is that of a prefix.
+    fn is_at(&self, prefixes: &[Prefix], n: usize, p: &Prefix) -> bool
+        requires { AllByRecursion (λ place. place < length prefixes.now) self.now.places }
+        ensures { IsTrue result → (n < length self.now.places) × (prefix_cmp (prefix_in prefixes.now (slice_index_or self.now.places n 0)) p.now ≡ Equal) }
+    {
+        match self.places.get(n) {
+            Some(place) => order_at(prefixes, *place, p) == Ordering::Equal,
+            None => false,
+        }
     }
 
     /// Takes the first of the dirty places away, and answers it.

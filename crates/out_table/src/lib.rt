@@ -7,6 +7,7 @@
 //! - `set` changes one cell, and makes it dirty and answers true exactly where the value changes.
 //! - `take_dirty` gives the least dirty prefix of a slot with the value there, and cleans it; `least_dirty` gives the same
 //!   and cleans nothing.
+//! - `next_dirty` gives the dirty prefixes of a slot in their order, one after another, through `&`, and `clean` cleans them all.
 //! - `clear` empties and cleans the cells of a slot, and no others.
 //! - `open` alone takes memory. Where there is none, the table is as before.
 //!

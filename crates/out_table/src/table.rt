@@ -3,7 +3,7 @@
 ghost use Rattle.std.specs.Prelude.{◌≡◌, ◌<◌, ◌≤◌, true, false, not, Some, None, OnOk, OnErr, IfSome, length, ◌&&◌, is_some};
 ghost use Rattle.std.specs.Option.{option_map};
 ghost use Rattle.out_table.specs.Cells.{is_same};
-ghost use Rattle.out_table.specs.Tables.{Table, new_table, cell, is_opened, is_dirty, opened, after_set, cleaned, cleared, IsLeast, is_after};
+ghost use Rattle.out_table.specs.Tables.{Table, new_table, cell, is_opened, is_dirty, opened, after_set, cleaned, unmarked, cleared, IsLeast, is_after};
 ghost use Rattle.out_table.specs.Places.{AreInverse, place_of};
 
 use crate::columns::Columns;
@@ -158,6 +158,40 @@ impl OutTable {
         let place = self.columns.first(slot.0 as usize)?;
         let value = self.columns.number(slot.0 as usize, place);
         Some((self.prefixes[place as usize], value))
+    }
+
+    /// The least dirty prefix of a slot after the given one, or of all, with the number in its cell. None exactly where there is none.
+    ///
+    /// It takes a constant time where `passed` is the number of the slot's dirty prefixes up to the given one, and else about the
+    /// logarithm of the number of its dirty prefixes. What it answers doesn't depend on `passed`.
+    pub fn next_dirty(
+        &self,
+        slot: Slot,
+        after: Option<Prefix>,
+        passed: usize,
+    ) -> Option<(Prefix, Option<RouteNo>)>
+        requires { slot < self.now.members }
+        ensures least { IsLeast (λ q. is_after after q && is_dirty self.now slot q) (option_map (λ found. found.0) result) }
+        ensures value { IfSome result (λ found. found.1 ≡ cell self.now slot found.0) }
+    {
+        if slot.0 as usize >= self.columns.len() {
+            return None;
+        }
+        let place = self
+            .columns
+            .next_dirty(slot.0 as usize, self.prefixes.as_slice(), after, passed)?;
+        let value = self.columns.number(slot.0 as usize, place);
+        Some((self.prefixes[place as usize], value))
+    }
+
+    /// Leaves each cell of a slot clean. Its values stay.
+    pub fn clean(&mut self, slot: Slot)
+        requires { slot < self.old.members }
+        ensures { self.new ≡ unmarked slot self.old }
+    {
+        if (slot.0 as usize) < self.columns.len() {
+            self.columns.clean(slot.0 as usize);
+        }
     }
 
     /// Leaves each cell of a slot without a route and clean. It goes over the slot's cells.

@@ -59,6 +59,10 @@ IsLeastPending shard least = IsLeast (λ p. is_pending shard p ≡ true) least
 abbrev pub IsLeastDirty : ShardOf → ℕ → Option IpPrefix → Type 0
 IsLeastDirty shard slot least = IsLeast (λ p. is_dirty shard slot p ≡ true) least
 
+-- the least prefix after the given one at which a cell of the slot is dirty
+abbrev pub IsNextDirty : ShardOf → ℕ → Option IpPrefix → Option IpPrefix → Type 0
+IsNextDirty shard slot after next = IsLeast (λ p. IsAfter after p × (is_dirty shard slot p ≡ true)) next
+
 -- the least prefix after the given one that some slot announces, and the least one at which the slot is given a route
 abbrev pub IsNextAnnounced : ShardOf → Option IpPrefix → Option IpPrefix → Type 0
 IsNextAnnounced shard after next = IsLeast (λ p. IsAfter after p × ((slot : ℕ) × IsSome (announced_at shard slot p))) next

@@ -8,7 +8,7 @@ ghost use Rattle.rcp_model.specs.Routes.{is_usable};
 ghost use Rattle.rcp_model.specs.ServerRibs.{Up, Down, Change, Links, Work, prefixes_of};
 ghost use Rattle.rcs_shard.specs.Settling.{AreClasses};
 ghost use Rattle.rcs_shard.specs.Following.{AreMoved};
-ghost use Rattle.rcs_shard.specs.Shards.{new_shard, is_connected, is_pending, announced_at, given_at, IsLeastPending, IsLeastDirty, IsNextAnnounced, IsNextGiven, acted, taken};
+ghost use Rattle.rcs_shard.specs.Shards.{new_shard, is_connected, is_pending, announced_at, given_at, IsLeastPending, IsLeastDirty, IsNextDirty, IsNextAnnounced, IsNextGiven, acted, taken, without_cells_of};
 
 use crate::classes::find_classes;
 use crate::marking::{mark_all, mark_flagged, mark_of, moved_slots};
@@ -298,14 +298,31 @@ impl Shard {
         self.ribs.take_dirty(slot)
     }
 
-    /// The prefix that `take_offer` would give, with the route that the slot is given there. The route can be offered: it isn't long. It takes constant time.
-    pub fn dirty_cell(&self, slot: Slot) -> Option<(Prefix, Option<&Route>)>
+    /// The least prefix after the given one, or of all, at which the cell of a slot is dirty, with the route that the slot is given
+    /// there. The route can be offered: it isn't long. None exactly where there is none.
+    ///
+    /// It takes a constant time where `passed` is the number of the slot's dirty cells up to the given prefix, and else about the
+    /// logarithm of the number of its dirty cells. What it answers doesn't depend on `passed`.
+    pub fn next_dirty(
+        &self,
+        slot: Slot,
+        after: Option<Prefix>,
+        passed: usize,
+    ) -> Option<(Prefix, Option<&Route>)>
         requires { slot < length self.now.members }
-        ensures least { IsLeastDirty self.now slot (option_map (λ found. found.0) result) }
+        ensures next { IsNextDirty self.now slot after (option_map (λ found. found.0) result) }
         ensures route { IfSome result (λ found. option_map (λ route. route.now) found.1 ≡ given_at self.now slot found.0) }
         ensures usable { IfSome result (λ found. IfSome found.1 (λ route. is_usable route.now ≡ true)) }
     {
-        self.ribs.dirty_cell(slot)
+        self.ribs.next_dirty(slot, after, passed)
+    }
+
+    /// Leaves each cell of a slot clean. What the slot is given stays.
+    pub fn clean(&mut self, slot: Slot)
+        requires { slot < length self.old.members }
+        ensures { self.new ≡ record self.old { dirty = without_cells_of slot self.old.dirty } }
+    {
+        self.ribs.clean(slot);
     }
 
     /// The prefix that `take_offer` would give. It cleans nothing.

@@ -13,112 +13,12 @@ use Rattle.cost_rows.specs.Views.{ViewOf}
 use Rattle.rcp_model.specs.Assigned.{IsLeast}
 use Rattle.platform_laws.specs.Parts.{shard_number}
 use Rattle.rcs_shard.specs.Shards.{ShardOf, is_dirty, taken}
-use Rattle.rcs_shards.specs.Dirty.{sliced, sliced_found, sliced_at, dirty_in, has_dirty, cleaned, IsDirtyAt, AreReady, ArePending, AreBusy, AreFronts}
+use Rattle.rcs_shards.specs.Dirty.{sliced, sliced_found, sliced_at, dirty_in, has_dirty, cleaned, ArePending, AreBusy}
 use Rattle.rcs_shards.specs.Joins.{AreTogether}
 use Rattle.rcs_shards.specs.Least.{lesser_of, HasSome}
 use Rattle.rcs_shards.proofs.LeastLemmas.{HasBelow, least-same, least-none, least-turn, least-all}
 use Rattle.rcs_shards.proofs.PlaceLemmas.{found-map, found-set, set-found, set-others}
 use Rattle.rcs_shards.proofs.WorkLemmas.{slice-none}
-
--- ---- while cells are taken away
-
-pub busy-after : (roster : RosterOf) (first now : List ShardOf) (busy : List ℕ) → AreBusy roster first busy → map cleaned now ≡ map cleaned first
-    → ((slot : ℕ) (p : IpPrefix) → has_dirty roster now slot p ≡ true → has_dirty roster first slot p ≡ true) → AreBusy roster now busy
-busy-after roster first now busy is kept fewer = record {
-  within = subst (λ n. All (λ k. k < n) busy) (sym (sym (length-map now cleaned) ∙ ap length kept ∙ length-map first cleaned)) is.within;
-  listed = λ slot p dirty. is.listed slot p (fewer slot p dirty);
-}
-
--- ---- the least of the shards at these places
-
-pub least-at : (shards : List ShardOf) (slot place : ℕ) (shard : ShardOf) (found : Option IpPrefix) → place < length shards → shard ≡ get_or shards place shard
-    → IsLeast (λ p. is_dirty shard slot p ≡ true) found → IsLeast (IsDirtyAt shards slot place) found
-least-at shards slot place shard found low read least =
-    subst (λ (o : Option ShardOf). IsLeast (λ p. dirty_in o slot p ≡ true) found) (sym (slice_get-get_or shards place shard low ∙ ap (λ s. Some s) (sym read))) least
-
--- so many first places have the prefix of their shard's least dirty cell
-pub record Fronts (shards : List ShardOf) (busy : List ℕ) (slot count : ℕ) (fronts : List (Option IpPrefix)) : Type 0 where
-  pub long : length fronts ≡ length shards
-  pub each : (k : ℕ) → k < count → IsLeast (IsDirtyAt shards slot (get_or busy k 0)) (get_or fronts (get_or busy k 0) None)
-
-pub fronts-none : (shards : List ShardOf) (busy : List ℕ) (slot : ℕ) (fronts : List (Option IpPrefix)) → length fronts ≡ length shards → Fronts shards busy slot 0 fronts
-fronts-none shards busy slot fronts long = record { long = long; each = λ k low. absurd (omega (arith, low)) }
-
-pub fronts-more : (shards : List ShardOf) (busy : List ℕ) (slot count place : ℕ) (fronts : List (Option IpPrefix)) (front : Option IpPrefix) → Fronts shards busy slot count fronts → place ≡ get_or busy count 0 → place < length shards
-    → IsLeast (IsDirtyAt shards slot place) front → Fronts shards busy slot (count + 1) (set fronts place front)
-fronts-more shards busy slot count place fronts front so_far at low least = record {
-  long = length-set fronts place front ∙ so_far.long;
-  each = λ k below. by_place k below (cases_eq (get_or busy k 0) place);
-} where
-  inside : place < length fronts
-  inside = subst (λ n. place < n) (sym so_far.long) low
-
-  by_place : (k : ℕ) → k < count + 1 → (get_or busy k 0 ≡ place) ⊎ (get_or busy k 0 ≢ place) → IsLeast (IsDirtyAt shards slot (get_or busy k 0)) (get_or (set fronts place front) (get_or busy k 0) None)
-  by_place k below (inl same) =
-      subst (λ (n : ℕ). IsLeast (IsDirtyAt shards slot n) (get_or (set fronts place front) n None)) (sym same)
-      (subst (IsLeast (IsDirtyAt shards slot place)) (sym (get_or-set_same fronts place front None inside)) least)
-  by_place k below (inr other) =
-      let earlier : k ≢ count = λ is. other (ap (λ n. get_or busy n 0) is ∙ sym at) in
-      subst (IsLeast (IsDirtyAt shards slot (get_or busy k 0))) (sym (get_or-set_other fronts place (get_or busy k 0) front None other)) (so_far.each k (omega (arith, below)))
-
-pub fronts-all : (shards : List ShardOf) (busy : List ℕ) (slot count : ℕ) (fronts : List (Option IpPrefix)) → Fronts shards busy slot count fronts → length busy ≤ count → AreFronts shards busy slot fronts
-fronts-all shards busy slot count fronts so_far all = record {
-  long = so_far.long;
-  each = λ n has.
-      let low = has.1 in
-      let here : get_or busy has.0 0 ≡ n = get_or_default busy has.0 0 n has.1 ∙ has.2 in
-      subst (λ (m : ℕ). IsLeast (IsDirtyAt shards slot m) (get_or fronts m None)) here (so_far.each has.0 (omega (arith, low, all)));
-}
-
-pub taken-members : (slot : ℕ) (o : Option IpPrefix) (shard : ShardOf) → (taken slot o shard).members ≡ shard.members
-taken-members slot None shard = refl
-taken-members slot (Some p) shard = refl
-
--- one shard changes, and its front is found anew
-pub fronts-after : (shards : List ShardOf) (busy : List ℕ) (slot n : ℕ) (fronts : List (Option IpPrefix)) (new : ShardOf) (front : Option IpPrefix) → AreFronts shards busy slot fronts → n < length shards
-    → IsLeast (λ p. is_dirty new slot p ≡ true) front → AreFronts (set shards n new) busy slot (set fronts n front)
-fronts-after shards busy slot n fronts new front are low least = record {
-  long = length-set fronts n front ∙ are.long ∙ sym (length-set shards n new);
-  each = λ m has. at m has (cases_eq m n);
-} where
-  at : (m : ℕ) → Contains busy m → (m ≡ n) ⊎ (m ≢ n) → IsLeast (IsDirtyAt (set shards n new) slot m) (get_or (set fronts n front) m None)
-  at m has (inl same) =
-      subst (λ (k : ℕ). IsLeast (IsDirtyAt (set shards n new) slot k) (get_or (set fronts n front) k None)) (sym same)
-      (subst (λ (o : Option ShardOf). IsLeast (λ p. dirty_in o slot p ≡ true) (get_or (set fronts n front) n None)) (sym (set-found shards n new low))
-      (subst (IsLeast (λ p. is_dirty new slot p ≡ true)) (sym (get_or-set_same fronts n front None (subst (λ k. n < k) (sym are.long) low))) least))
-  at m has (inr other) =
-      subst (λ (o : Option ShardOf). IsLeast (λ p. dirty_in o slot p ≡ true) (get_or (set fronts n front) m None)) (sym (set-others shards n m new other))
-      (subst (IsLeast (IsDirtyAt shards slot m)) (sym (get_or-set_other fronts n m front None other)) (are.each m has))
-
--- what is known of the least so far, whichever shards the fronts are of
-abbrev pub LeastSoFar : List ℕ → List (Option IpPrefix) → ℕ → Option IpPrefix → Type 0
-LeastSoFar busy fronts count found = (shards : List ShardOf) (slot : ℕ) → AreFronts shards busy slot fronts → IsLeast (HasBelow (IsDirtyAt shards slot) busy count) found
-
-pub so_far-none : (busy : List ℕ) (fronts : List (Option IpPrefix)) → LeastSoFar busy fronts 0 None
-so_far-none busy fronts shards slot are = least-none (IsDirtyAt shards slot) busy
-
-pub so_far-more : (busy : List ℕ) (fronts : List (Option IpPrefix)) (count place : ℕ) (found front more : Option IpPrefix) → LeastSoFar busy fronts count found → count < length busy → place ≡ get_or busy count 0 → front ≡ get_or fronts place None
-    → more ≡ lesser_of found front → LeastSoFar busy fronts (count + 1) more
-so_far-more busy fronts count place found front more so_far low at read is shards slot are =
-    let here : place ≡ get_or busy count place = at ∙ get_or_default busy count 0 place low in
-    least-turn (IsDirtyAt shards slot) busy count place low here found front more (so_far shards slot are)
-    (subst (IsLeast (IsDirtyAt shards slot place)) (sym read) (are.each place (count, low, sym here))) is
-
-pub so_far-all : (busy : List ℕ) (fronts : List (Option IpPrefix)) (count : ℕ) (found : Option IpPrefix) → LeastSoFar busy fronts count found → length busy ≤ count
-    → (shards : List ShardOf) (slot : ℕ) → AreFronts shards busy slot fronts → IsLeast (HasSome (IsDirtyAt shards slot) busy) found
-so_far-all busy fronts count found so_far all shards slot are = least-all (IsDirtyAt shards slot) busy count found all (so_far shards slot are)
-
-module _ (roster : RosterOf) (shards : List ShardOf) (ready : AreReady roster shards) (busy : List ℕ) (are : AreBusy roster shards busy) (slot : ℕ) where
-  pub least-busy : (found : Option IpPrefix) → IsLeast (HasSome (IsDirtyAt shards slot) busy) found → IsLeast (λ p. has_dirty roster shards slot p ≡ true) found
-  least-busy found least = least-same (HasSome (IsDirtyAt shards slot) busy) (λ p. has_dirty roster shards slot p ≡ true) found to from least where
-    to : (p : IpPrefix) → HasSome (IsDirtyAt shards slot) busy p → has_dirty roster shards slot p ≡ true
-    to p has = at (slice_get shards has.1) refl has.3 where
-      at : (o : Option ShardOf) → slice_get shards has.1 ≡ o → dirty_in o slot p ≡ true → has_dirty roster shards slot p ≡ true
-      at None none dirty = absurd (false≢true dirty)
-      at (Some s) here dirty = ap (λ o. dirty_in o slot p) (ap (slice_get shards) ((ready.each has.1 s here).own slot p dirty) ∙ here) ∙ dirty
-
-    from : (p : IpPrefix) → has_dirty roster shards slot p ≡ true → HasSome (IsDirtyAt shards slot) busy p
-    from p dirty = let place = are.listed slot p dirty in (place.0, shard_number roster p, slice_get-get_or busy place.0 (shard_number roster p) place.1 ∙ ap (λ n. Some n) place.2, dirty)
 
 -- ---- after work
 

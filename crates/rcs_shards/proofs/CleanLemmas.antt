@@ -21,37 +21,6 @@ inside-without slot dirty q = set_of.contains-retain dirty (λ (key : RibKey). n
 with_dirty : (shard : ShardOf) (a b : CellSet) → ((q : RibKey) → set_of.contains a q ≡ set_of.contains b q) → record shard { dirty = a } ≡ record shard { dirty = b }
 with_dirty shard a b same = ap (λ d. record shard { dirty = d }) (set_of.same_set rib_total rib_exact a b same)
 
--- a cell of the slot less is no other shard without them
-pub without-taken : (slot : ℕ) (p : IpPrefix) (shard : ShardOf) → without_slot slot (taken slot (Some p) shard) ≡ without_slot slot shard
-without-taken slot p shard = with_dirty shard (without_cells_of slot (set_of.remove shard.dirty (p, slot))) (without_cells_of slot shard.dirty) (λ (q : RibKey).
-    inside-without slot (set_of.remove shard.dirty (p, slot)) q
-    ∙ ap (λ b. b && not (eqb q.1 slot)) (set_of.contains-remove rib_total shard.dirty (p, slot) q ∙ ap (λ b. not b && set_of.contains shard.dirty q) (key_tied q (p, slot)))
-    ∙ dropped (same_prefix q.0 p) (eqb q.1 slot) (set_of.contains shard.dirty q)
-    ∙ sym (inside-without slot shard.dirty q)) where
-      dropped : (a b c : Bool) → ((not (a && b) && c) && not b) ≡ (c && not b)
-      dropped true true true = refl
-      dropped true true false = refl
-      dropped true false c = refl
-      dropped false b c = refl
-
-pub taken-less : (slot : ℕ) (p : IpPrefix) (shard : ShardOf) → is_dirty shard slot p ≡ true → set_of.len (taken slot (Some p) shard).dirty < set_of.len shard.dirty
-taken-less slot p shard dirty =
-    let less : set_of.len (set_of.remove shard.dirty (p, slot)) ≡ set_of.len shard.dirty - 1 = set_of.len-remove rib_total shard.dirty (p, slot) ∙ ap (λ b. cond b (set_of.len shard.dirty - 1) (set_of.len shard.dirty)) dirty in
-    let some = some_inside (set_of.len shard.dirty) refl in
-    omega (arith, less, some) where
-      some_inside : (n : ℕ) → set_of.len shard.dirty ≡ n → 1 ≤ n
-      some_inside zero none = absurd (false≢true (sym (ap (λ d. set_of.contains d (p, slot)) (set_of.empty_of_len shard.dirty none) ∙ set_of.contains-empty rib_cmp (p, slot)) ∙ dirty))
-      some_inside (suc n) is = omega arith
-
--- a shard in which no cell of the slot is dirty is itself without them
-pub without-none : (slot : ℕ) (shard : ShardOf) → IsLeastDirty shard slot None → without_slot slot shard ≡ shard
-without-none slot shard none = with_dirty shard (without_cells_of slot shard.dirty) shard.dirty (λ (q : RibKey).
-    inside-without slot shard.dirty q ∙ kept (set_of.contains shard.dirty q) (eqb q.1 slot) (λ dirty same. none q.0 (ap (λ s. set_of.contains shard.dirty (q.0, s)) (sym (eqb-true q.1 slot same)) ∙ dirty))) where
-      kept : (c b : Bool) → (c ≡ true → b ≡ true → ⊥) → (c && not b) ≡ c
-      kept true true h = absurd (h refl refl)
-      kept true false h = refl
-      kept false b h = refl
-
 -- ---- slot by slot
 
 -- the cells of so many first slots are clean, others are dirty only where they were, and all else is as before
@@ -85,27 +54,6 @@ cleans-all count first now so_far seated =
       none true h = absurd (h refl)
       none false h = refl
 
--- ---- turns of the loops
-
-module _ (slot : ℕ) (shard now : ShardOf) (o : Option IpPrefix) (least : IsLeastDirty shard slot o) (is : now ≡ taken slot o shard) where
-  some_taken : (o : Option IpPrefix) → is_some o ≡ true → (p : IpPrefix) × (o ≡ Some p)
-  some_taken None none_o = absurd (false≢true none_o)
-  some_taken (Some p) some_o = (p, refl)
-
-  pub turn-smaller : is_some o ≡ true → set_of.len now.dirty < set_of.len shard.dirty
-  turn-smaller some =
-      let found = some_taken o some in
-      let least_is : IsLeastDirty shard slot (Some found.0) = subst (IsLeastDirty shard slot) found.1 least in
-      subst (λ (s : ShardOf). set_of.len s.dirty < set_of.len shard.dirty) (sym (is ∙ ap (λ q. taken slot q shard) found.1)) (taken-less slot found.0 shard least_is.0)
-
-  pub turn-kept : is_some o ≡ true → without_slot slot now ≡ without_slot slot shard
-  turn-kept some = let found = some_taken o some in ap (without_slot slot) (is ∙ ap (λ q. taken slot q shard) found.1) ∙ without-taken slot found.0 shard
-
-  pub turn-end : is_some o ≡ false → now ≡ without_slot slot shard
-  turn-end none = by_case o none least is where
-    by_case : (q : Option IpPrefix) → is_some q ≡ false → IsLeastDirty shard slot q → now ≡ taken slot q shard → now ≡ without_slot slot shard
-    by_case None none_q least_q is_q = is_q ∙ sym (without-none slot shard least_q)
-    by_case (Some p) some_q least_q is_q = absurd (false≢true (sym some_q))
-
+-- a turn of the loop
 pub cleans-turn : (count : ℕ) (first before now : ShardOf) → Cleans count first before → now ≡ without_slot count before → Cleans (count + 1) first now
 cleans-turn count first before now so_far is = subst (λ n. Cleans n first now) (sym (add-one count)) (cleans-more count first before now so_far is)

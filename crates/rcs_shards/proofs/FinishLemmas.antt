@@ -32,9 +32,6 @@ use Rattle.rcs_shards.proofs.ChangeLemmas.{all-worked, worked-dirty, worked-read
 pub ribs-cleaned : (shards : List ShardOf) → ribs_in (map cleaned shards) ≡ ribs_in shards
 ribs-cleaned shards = map_over_map cleaned (λ (s : ShardOf). s.ribs) shards
 
-pub ribs-kept : (shards now : List ShardOf) → map cleaned now ≡ map cleaned shards → ribs_in now ≡ ribs_in shards
-ribs-kept shards now kept = sym (ribs-cleaned now) ∙ ap ribs_in kept ∙ ribs-cleaned shards
-
 module _ (roster : RosterOf) (view : ViewOf) (count : ℕ) (shards now : List ShardOf) (ps : List IpPrefix) (h : AreTogether roster view count shards)
     (long : length now ≡ length shards)
     (each : (n : ℕ) (s : ShardOf) → slice_get shards n ≡ Some s → slice_get now n ≡ Some (worked_on (own_of roster n ps) s)) where
@@ -72,12 +69,12 @@ module _ (roster : RosterOf) (view : ViewOf) (count : ℕ) (shards now : List Sh
         counted = h.counted ∙ ap set_of.len (sym same.1);
       }
 
-  module _ (later last : List ShardOf) (kept : map cleaned later ≡ map cleaned now) (clean : last ≡ map cleaned later) where
+  module _ (last : List ShardOf) (clean : last ≡ map cleaned now) where
     pub together-last : AreTogether roster view count last
-    together-last = subst (AreTogether roster view count) (sym (clean ∙ kept)) clean_now
+    together-last = subst (AreTogether roster view count) (sym clean) clean_now
 
     pub ribs-last : ribs_in last ≡ ribs_in now
-    ribs-last = ap ribs_in (clean ∙ kept) ∙ ribs-cleaned now
+    ribs-last = ap ribs_in clean ∙ ribs-cleaned now
 
     pub worked-last : server_of roster last ≡ worked ps (server_of roster shards)
     worked-last = ap (λ (rs : List (Ribs RouteFields)). let s : ServerOf = record { roster = roster; shards = rs } in s) (ribs-last ∙ after_work)
@@ -98,9 +95,9 @@ AreWorked roster shards now ps = (n : ℕ) (s : ShardOf) → slice_get shards n 
 -- what is known of a server after work on prefixes, and of what was sent
 pub record Works (roster : RosterOf) (view : ViewOf) (count : ℕ) (now last : List ShardOf) (ps : List IpPrefix) (server : ServerOf) (slots : List ℕ) : Type 0 where
   pub ready : AreReady roster now
-  pub together : (later : List ShardOf) → map cleaned later ≡ map cleaned now → last ≡ map cleaned later → AreTogether roster view count last
-  pub after : (later : List ShardOf) → map cleaned later ≡ map cleaned now → last ≡ map cleaned later → server_of roster last ≡ worked ps server
-  pub sent_is : (later : List ShardOf) → map cleaned later ≡ map cleaned now → last ≡ map cleaned later → (lists : List (List (List ℕ)))
+  pub together : last ≡ map cleaned now → AreTogether roster view count last
+  pub after : last ≡ map cleaned now → server_of roster last ≡ worked ps server
+  pub sent_is : last ≡ map cleaned now → (lists : List (List (List ℕ)))
       → ((prefixes : ℕ → List IpPrefix) → ((slot : ℕ) → AreDirty roster now slot (prefixes slot)) → lists ≡ map (λ slot. packed (cells_of roster now slot (prefixes slot))) slots)
       → lists ≡ sent ps server (server_of roster last) slots
 
@@ -108,9 +105,9 @@ module _ (roster : RosterOf) (view : ViewOf) (count : ℕ) (shards : List ShardO
   works : (ps : List IpPrefix) → IsRising ps → length now ≡ length shards → AreWorked roster shards now ps → Works roster view count now last ps server slots
   works ps rising long each = record {
     ready = ready roster view count shards now ps h long each;
-    together = λ later kept clean. together-last roster view count shards now ps h long each later last kept clean;
-    after = λ later kept clean. worked-last roster view count shards now ps h long each later last kept clean ∙ ap (worked ps) is;
-    sent_is = λ later kept clean lists h_sent. sent-last roster view count shards now ps h long each later last kept clean slots lists rising h_sent ∙ ap (λ s. sent ps s (server_of roster last) slots) is;
+    together = λ clean. together-last roster view count shards now ps h long each last clean;
+    after = λ clean. worked-last roster view count shards now ps h long each last clean ∙ ap (worked ps) is;
+    sent_is = λ clean lists h_sent. sent-last roster view count shards now ps h long each last clean slots lists rising h_sent ∙ ap (λ s. sent ps s (server_of roster last) slots) is;
   }
 
   all-each : now ≡ map (λ (s : ShardOf). sliced (set_of.len s.ribs.pending) s) shards → AreWorked roster shards now (all_pending (ribs_in shards))

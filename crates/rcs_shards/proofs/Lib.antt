@@ -1,11 +1,11 @@
 pub mod PlaceLemmas
 pub mod EachLemmas
 pub mod LeastLemmas
-pub mod OfferLemmas
 pub mod EventLemmas
 pub mod WorkLemmas
 pub mod ChangeLemmas
-pub mod DirtyLemmas
+pub mod FrontLemmas
+pub mod ReadLemmas
 pub mod CleanLemmas
 pub mod FinishLemmas
 pub mod SendLemmas

@@ -56,11 +56,6 @@ dirty_in (Some shard) slot p = is_dirty shard slot p
 abbrev pub has_dirty : RosterOf → List ShardOf → ℕ → IpPrefix → Bool
 has_dirty roster shards slot p = dirty_in (slice_get shards (shard_number roster p)) slot p
 
--- how many cells are dirty
-abbrev pub dirty_count : List ShardOf → ℕ
-dirty_count [] = 0
-dirty_count (shard ∷ shards) = set_of.len shard.dirty + dirty_count shards
-
 -- a shard's dirty cells are of members and of its own prefixes
 pub record IsReady (roster : RosterOf) (number : ℕ) (shard : ShardOf) : Type 0 where
   pub members : shard.members ≡ roster.members
@@ -81,29 +76,9 @@ pub record AreDirty (roster : RosterOf) (shards : List ShardOf) (slot : ℕ) (pr
 abbrev pub cells_of : RosterOf → List ShardOf → ℕ → List IpPrefix → List Cell
 cells_of roster shards slot prefixes = cells_at roster (ribs_in shards) slot prefixes
 
--- the offers of a slot's dirty cells, by rising prefix
-pub record AreOffered (roster : RosterOf) (shards : List ShardOf) (slot : ℕ) (offers : List OfferFields) : Type 0 where
-  pub dirty : AreDirty roster shards slot (map (λ offer. offer.prefix) offers)
-  pub cells : map cell_of offers ≡ cells_of roster shards slot (map (λ offer. offer.prefix) offers)
-  pub sendable : AllByRecursion IsSendable (map cell_of offers)
-
 -- the shard at a place has a dirty cell of the slot at the prefix
 abbrev pub IsDirtyAt : List ShardOf → ℕ → ℕ → IpPrefix → Type 0
 IsDirtyAt shards slot place p = dirty_in (slice_get shards place) slot p ≡ true
-
--- at each of these places stands the prefix of the least dirty cell of the slot in the shard of that place
-pub record AreFronts (shards : List ShardOf) (busy : List ℕ) (slot : ℕ) (fronts : List (Option IpPrefix)) : Type 0 where
-  pub long : length fronts ≡ length shards
-  pub each : (n : ℕ) → Contains busy n → IsLeast (IsDirtyAt shards slot n) (slice_index_or fronts n None)
-
--- The least dirty cell of a slot is taken away: it is at this prefix, and clean then. All else is as before.
-pub record Takes (roster : RosterOf) (slot : ℕ) (before : List ShardOf) (p : IpPrefix) (now : List ShardOf) : Type 0 where
-  pub was : has_dirty roster before slot p ≡ true
-  pub least : (q : IpPrefix) → has_dirty roster before slot q ≡ true → prefix_cmp q p ≡ Less → ⊥
-  pub dirty : (s : ℕ) (q : IpPrefix) → has_dirty roster now s q ≡ (has_dirty roster before s q && not (s == slot && same_prefix q p))
-  pub kept : map cleaned now ≡ map cleaned before
-  pub ready : AreReady roster now
-  pub fewer : dirty_count now < dirty_count before
 
 -- These places are of shards, and of the first so many shards each in which some prefix is pending stands at one of them.
 pub record ArePending (shards : List ShardOf) (places : List ℕ) (count : ℕ) : Type 0 where
@@ -114,10 +89,3 @@ pub record ArePending (shards : List ShardOf) (places : List ℕ) (count : ℕ) 
 pub record AreBusy (roster : RosterOf) (shards : List ShardOf) (busy : List ℕ) : Type 0 where
   pub within : All (λ n. n < length shards) busy
   pub listed : (slot : ℕ) (p : IpPrefix) → has_dirty roster shards slot p ≡ true → Contains busy (shard_number roster p)
-
--- All dirty cells of a slot are taken away, or some. All else is as before.
-pub record Empties (roster : RosterOf) (slot : ℕ) (before now : List ShardOf) : Type 0 where
-  pub others : (s : ℕ) (q : IpPrefix) → (s ≡ slot → ⊥) → has_dirty roster now s q ≡ has_dirty roster before s q
-  pub fewer : (s : ℕ) (q : IpPrefix) → has_dirty roster now s q ≡ true → has_dirty roster before s q ≡ true
-  pub kept : map cleaned now ≡ map cleaned before
-  pub ready : AreReady roster now

@@ -2,14 +2,14 @@
 
 ghost use Rattle.std.specs.Prelude.{◌≡◌, ℕ, ◌<◌, true, length, map};
 ghost use Rattle.rcp_base.specs.IpPrefix.{IpPrefix};
-ghost use Rattle.rcs_shard.specs.Shards.{is_dirty, without_cells_of};
+ghost use Rattle.rcs_shard.specs.Shards.{is_dirty};
 ghost use Rattle.rcs_shards.specs.Dirty.{cleaned, AreReady};
 
 use rcp_base::Slot;
 use rcs_shard::Shard;
 use roster::Roster;
 
-/// Leaves all cells of the shards of a roster clean. Of a clean shard it asks each slot once.
+/// Leaves all cells of the shards of a roster clean. It takes a constant time for each slot of each shard.
 pub(crate) fn clean(roster: &Roster, shards: &mut Vec<Shard>)
     requires { AreReady roster.now shards.old.items }
     ensures { shards.new.items ≡ map cleaned shards.old.items }
@@ -26,14 +26,6 @@ fn clean_shard(roster: &Roster, shard: &mut Shard)
     ensures { shard.new ≡ cleaned shard.old }
 {
     for slot in 0..roster.len() {
-        clean_slot(shard, Slot(slot));
+        shard.clean(Slot(slot));
     }
-}
-
-/// Leaves all cells of a slot clean.
-fn clean_slot(shard: &mut Shard, slot: Slot)
-    requires { slot < length shard.old.members }
-    ensures { shard.new ≡ record shard.old { dirty = without_cells_of slot shard.old.dirty } }
-{
-    while shard.take_offer(slot).is_some() {}
 }

@@ -22,6 +22,7 @@
 mod answers;
 mod asking;
 mod cleaning;
+mod cursors;
 mod events;
 mod least;
 mod sending;

@@ -5,7 +5,7 @@ ghost use Rattle.rcp_base.specs.IpPrefix.{IpPrefix};
 ghost use Rattle.rcp_model.specs.Packing.{packed};
 ghost use Rattle.platform_laws.specs.Asked.{all_pending};
 ghost use Rattle.rcs_shards.specs.Servers.{worked, least_pending, sent};
-ghost use Rattle.rcs_shards.specs.Dirty.{sliced, sliced_at, cleaned, cells_of, AreReady, ArePending, AreBusy, AreDirty};
+ghost use Rattle.rcs_shards.specs.Dirty.{sliced, sliced_at, cells_of, AreReady, ArePending, AreBusy, AreDirty};
 
 use crate::cleaning::clean;
 use crate::sending::send;
@@ -40,7 +40,7 @@ impl Shards {
     {
         let busy = pending_places(self.alloc, &self.shards);
         workers.work_each(&mut self.shards);
-        let sent = send_from(self.alloc, &self.roster, &mut self.shards, busy, slots);
+        let sent = send_from(self.alloc, &self.roster, &self.shards, busy, slots);
         clean(&self.roster, &mut self.shards);
         sent
     }
@@ -62,7 +62,7 @@ impl Shards {
         let place = usize::from(number);
         let busy = one_place(self.alloc, &self.shards, place);
         work_at(&mut self.shards, place, u64::from(count));
-        let sent = send_from(self.alloc, &self.roster, &mut self.shards, busy, slots);
+        let sent = send_from(self.alloc, &self.roster, &self.shards, busy, slots);
         clean(&self.roster, &mut self.shards);
         sent
     }
@@ -96,19 +96,16 @@ fn one_place(alloc: Global, shards: &[Shard], place: usize) -> Result<Vec<usize>
 fn send_from(
     alloc: Global,
     roster: &Roster,
-    shards: &mut Vec<Shard>,
+    shards: &[Shard],
     busy: Result<Vec<usize>, NoMemory>,
     slots: &[Slot],
 ) -> Result<Vec<Messages>, NoMemory>
-    requires ready { AreReady roster.now shards.old.items }
-    requires busy { IfOk busy (λ places. AreBusy roster.now shards.old.items places.items) }
+    requires ready { AreReady roster.now shards.now }
+    requires busy { IfOk busy (λ places. AreBusy roster.now shards.now places.items) }
     requires members { All (λ slot. slot < length roster.now.members) slots.now }
-    requires distinct { AllPairs (λ a b. a ≢ b) slots.now }
-    ensures sent { IfOk result (λ lists. (prefixes : ℕ → List IpPrefix) → ((slot : ℕ) → AreDirty roster.now shards.old.items slot (prefixes slot))
-        → map (λ messages. map (λ m. m.items) messages.items) lists.items ≡ map (λ slot. packed (cells_of roster.now shards.old.items slot (prefixes slot))) slots.now) }
+    ensures sent { IfOk result (λ lists. (prefixes : ℕ → List IpPrefix) → ((slot : ℕ) → AreDirty roster.now shards.now slot (prefixes slot))
+        → map (λ messages. map (λ m. m.items) messages.items) lists.items ≡ map (λ slot. packed (cells_of roster.now shards.now slot (prefixes slot))) slots.now) }
     ensures short { IfOk result (λ lists. All (λ messages. All (λ m. length m.items ≤ 4096) messages.items) lists.items) }
-    ensures kept { map cleaned shards.new.items ≡ map cleaned shards.old.items }
-    ensures ready { AreReady roster.now shards.new.items }
 {
     let busy = busy?;
     send(alloc, roster, shards, &busy, slots)

@@ -1,5 +1,5 @@
 -- The groups of the offers so far, and what the messages of all of them are.
-use Rattle.std.proofs.Common.{◌≡◌, ℕ, ◌+◌, ◌<◌, ◌≤◌, List, [], ◌∷◌, ◌++◌, length, map, take, get_or, Option, Some, None, refl, sym, ap, subst, ◌∙◌, arith, true}
+use Rattle.std.proofs.Common.{◌≡◌, ℕ, zero, suc, ◌+◌, ◌<◌, ◌≤◌, List, [], ◌∷◌, ◌++◌, length, map, take, get_or, Option, Some, None, refl, sym, ap, subst, ◌∙◌, arith, true}
 use Rattle.std.specs.Prelude.{flat_map, IfSome, AllPairs, IsTrue, bytes_eq}
 use Rattle.std.specs.List.{AllByRecursion}
 use Rattle.std.proofs.lemmas.List.{take_more, take_all, map-append}
@@ -21,6 +21,12 @@ count_short (Some octets) short = short
 push_each : (cells : List Cell) (cell : Cell) → AllByRecursion IsSendable cells → IsSendable cell → AllByRecursion IsSendable (cells ++ cell ∷ [])
 push_each [] cell each is = (is, tt)
 push_each (first ∷ cells) cell each is = (each.0, push_each cells cell each.1 is)
+
+-- each of some values that stand for cells can be sent where all can
+pub sendable-at : {X : Type 0} (cell_of : X → Cell) (xs : List X) (i : ℕ) (x : X) → AllByRecursion IsSendable (map cell_of xs) → i < length xs → x ≡ get_or xs i x → IsSendable (cell_of x)
+sendable-at cell_of [] i x each within is = absurd (omega (arith, within))
+sendable-at cell_of (y ∷ xs) zero x each within is = subst (λ z. IsSendable (cell_of z)) (sym is) each.0
+sendable-at cell_of (y ∷ xs) (suc i) x each within is = sendable-at cell_of xs i x each.1 (omega (arith, within)) is
 
 -- the groups of the first i of some values that stand for cells, each of which can be sent
 pub record AreGrouped {X : Type 0} (cell_of : X → Cell) (xs : List X) (i : ℕ) (gs : List Group) : Type 0 where
@@ -45,6 +51,13 @@ packed-is : (cells : List Cell) → packed cells ≡ flat_map group_updates (gro
 unfolding packed
 packed-is cells = refl
 
+-- packed messages carry cells by rising prefix
+pub packed-all : {X : Type 0} (cell_of : X → Cell) (xs : List X) → AllByRecursion IsSendable (map cell_of xs) → (from : Cell → X) (messages : List (List ℕ)) → messages ≡ packed (map cell_of xs)
+    → AllPairs (λ a b. IsTrue (is_before (cell_of a).0 (cell_of b).0)) xs → Carries messages (map cell_of xs)
+packed-all cell_of xs sendable from messages e rising =
+    subst (λ l. Carries l (map cell_of xs)) (sym e)
+    (packed-carries (map cell_of xs) (record { rising = map-pairs (λ (a b : Cell). IsTrue (is_before a.0 b.0)) cell_of from xs rising; each = sendable }))
+
 module _ {X : Type 0} (cell_of : X → Cell) (xs : List X) (i : ℕ) (gs : List Group) (grouped : AreGrouped cell_of xs i gs) (all : length xs ≤ i) where
   pub grouped-packed : (messages : List (List ℕ)) → messages ≡ flat_map group_updates gs → messages ≡ packed (map cell_of xs)
   grouped-packed messages e =
@@ -53,11 +66,7 @@ module _ {X : Type 0} (cell_of : X → Cell) (xs : List X) (i : ℕ) (gs : List 
   pub grouped-carries : (from : Cell → X) (messages : List (List ℕ)) → AllPairs (λ a b. IsTrue (is_before (cell_of a).0 (cell_of b).0)) xs
       → messages ≡ flat_map group_updates gs → Carries messages (map cell_of xs)
   grouped-carries from messages rising e =
-      subst (λ l. Carries l (map cell_of xs)) (sym (grouped-packed messages e))
-      (packed-carries (map cell_of xs) (record {
-        rising = map-pairs (λ (a b : Cell). IsTrue (is_before a.0 b.0)) cell_of from xs rising;
-        each = subst (λ l. AllByRecursion IsSendable (map cell_of l)) (take_all i xs all) grouped.sendable;
-      }))
+      packed-all cell_of xs (subst (λ l. AllByRecursion IsSendable (map cell_of l)) (take_all i xs all) grouped.sendable) from messages (grouped-packed messages e) rising
 
 -- ---- one cell
 
@@ -71,20 +80,27 @@ packed-one p (Some octets) = let same : bytes_eq octets octets ≡ true = (bytes
 pub one-fits : (p : IpPrefix) (v : Option (List ℕ)) → octet_count v ≤ 4068 → length (update_of v (p ∷ [])) ≤ 4096
 one-fits p v short = omega (arith, length-update_of v (p ∷ []), length-one p)
 
--- the groups of a list of one
-pub one-grouped : {X : Type 0} (cell_of : X → Cell) (xs : List X) (x : X) → length xs ≡ 1 → x ≡ get_or xs 0 x → IsSendable (cell_of x)
-    → AreGrouped cell_of xs 1 (groups (map cell_of xs))
-one-grouped cell_of [] x one is sendable = absurd (omega arith)
-one-grouped cell_of (y ∷ []) x one is sendable = record { made = refl; sendable = (subst (λ z. IsSendable (cell_of z)) is sendable, tt) }
-one-grouped cell_of (y ∷ (z ∷ xs)) x one is sendable = absurd (omega arith)
+-- ---- cells listed one after another
 
--- the UPDATE of the one cell carries it
-pub one-carries : {X : Type 0} (cell_of : X → Cell) (xs : List X) (x : X) → length xs ≡ 1 → x ≡ get_or xs 0 x → IsSendable (cell_of x) → (from : Cell → X) (messages : List (List ℕ))
-    → AllPairs (λ a b. IsTrue (is_before (cell_of a).0 (cell_of b).0)) xs → messages ≡ packed (cell_of x ∷ []) → Carries messages (map cell_of xs)
-one-carries {X = X} cell_of xs x one is sendable from messages rising e =
-    grouped-carries cell_of xs 1 (groups (map cell_of xs)) (one-grouped cell_of xs x one is sendable) (omega (arith, one)) from messages rising
-    (e ∙ ap (λ l. packed (map cell_of l)) (sym (only xs x one is)) ∙ packed-is (map cell_of xs)) where
-      only : (ys : List X) (y : X) → length ys ≡ 1 → y ≡ get_or ys 0 y → ys ≡ y ∷ []
-      only [] y one is = absurd (omega arith)
-      only (z ∷ []) y one is = ap (λ z. z ∷ []) (sym is)
-      only (z ∷ (w ∷ ys)) y one is = absurd (omega arith)
+-- the cells of the first i of some values, each of which can be sent
+pub record AreListed {X : Type 0} (cell_of : X → Cell) (xs : List X) (i : ℕ) (cells : List Cell) : Type 0 where
+  pub listed : cells ≡ map cell_of (take i xs)
+  pub sendable : AllByRecursion IsSendable (map cell_of (take i xs))
+
+pub listed-more : {X : Type 0} (cell_of : X → Cell) (xs : List X) (i : ℕ) (cells after : List Cell) (x : X) → AreListed cell_of xs i cells
+    → i < length xs → x ≡ get_or xs i x → IsSendable (cell_of x) → after ≡ cells ++ cell_of x ∷ [] → AreListed cell_of xs (i + 1) after
+listed-more cell_of xs i cells after x so_far within is sendable made =
+    let done = map cell_of (take i xs) in
+    let more : map cell_of (take (i + 1) xs) ≡ done ++ cell_of x ∷ [] =
+    ap (map cell_of) (take_more xs i x within ∙ ap (λ y. take i xs ++ y ∷ []) (sym is)) ∙ map-append cell_of (take i xs) (x ∷ []) in
+    record {
+      listed = made ∙ ap (λ l. l ++ cell_of x ∷ []) so_far.listed ∙ sym more;
+      sendable = subst (AllByRecursion IsSendable) (sym more) (push_each done (cell_of x) so_far.sendable sendable);
+    }
+
+module _ {X : Type 0} (cell_of : X → Cell) (xs : List X) (i : ℕ) (cells : List Cell) (so_far : AreListed cell_of xs i cells) (all : length xs ≤ i) where
+  pub listed-all : cells ≡ map cell_of xs
+  listed-all = so_far.listed ∙ ap (map cell_of) (take_all i xs all)
+
+  pub sendable-all : AllByRecursion IsSendable (map cell_of xs)
+  sendable-all = subst (λ l. AllByRecursion IsSendable (map cell_of l)) (take_all i xs all) so_far.sendable

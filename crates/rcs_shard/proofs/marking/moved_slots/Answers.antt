@@ -1,4 +1,4 @@
-use Rattle.std.proofs.Common.{length, refl, ap, subst, ◌∙◌, arith}
+use Rattle.std.proofs.Common.{length, refl, ap, subst, arith}
 use Rattle.rcp_model.specs.RouteServer.{cost_differs}
 use Rattle.rcs_shard.proofs.MovedLemmas.{Flagging, flagging_none, flagging_more, flagging_all}
 use Rattle.rcs_shard.proofs.marking.moved_slots.Goals as goal
