@@ -125,3 +125,9 @@ parts_fit vs front back place there kept is at f b =
       length-append (octets_of (all_shown (take place vs)) ++ default_octets there) (octets_of (all_shown (drop place vs))),
       length-append (octets_of (all_shown (take place vs))) (default_octets there),
     ))
+
+-- the parts, one after another
+pub parts_are_canonical : (vs front back : List Value) (place : ℕ) (there : Bool) → IsKept (all_shown vs) → there ≡ is_some (value_of LOCAL_PREF (all_shown vs))
+    → insert_by_type default_pref (all_shown vs) ≡ take place (all_shown vs) ++ default_pref ∷ drop place (all_shown vs) → front ≡ take place vs → back ≡ drop place vs
+    → canonical_octets (all_shown vs) ≡ (octets_of (all_shown front) ++ default_octets there) ++ octets_of (all_shown back)
+parts_are_canonical vs front back place there kept is at f b = rw (f, b) (canonical-parts vs place there kept is at)

@@ -1,5 +1,5 @@
 -- Octets put one after another, and the octets of an attribute.
-use Rattle.std.proofs.Common.{◌≡◌, ℕ, leb, List, ◌++◌, length, take, refl, sym, ap, ◌∙◌, inl, inr, append_assoc, length-append, arith}
+use Rattle.std.proofs.Common.{◌≡◌, ℕ, ◌+◌, leb, List, ◌++◌, length, take, refl, sym, ap, ◌∙◌, inl, inr, append_assoc, length-append, arith}
 use Rattle.std.proofs.lemmas.Bool.{cases_Bool}
 use Rattle.rcp_model.specs.Attributes.{Attribute, attribute_octets}
 use Rattle.path_attrs.specs.Appending.{Appends}
@@ -22,3 +22,7 @@ attribute_octets-parts a = elim (cases_Bool (leb (length a.value) 255)) [
 
 pub parts_are : (a : Attribute) (flags kind len : ℕ) → flags ≡ a.flags → kind ≡ a.kind → len ≡ length a.value → header_octets flags kind len ++ a.value ≡ attribute_octets a
 parts_are a flags kind len f k l = rw (f, k, l) (sym (attribute_octets-parts a))
+
+pub parts_long : (a : Attribute) (flags kind len : ℕ) → flags ≡ a.flags → kind ≡ a.kind → len ≡ length a.value
+    → length (header_octets flags kind len) + length a.value ≡ length (attribute_octets a)
+parts_long a flags kind len f k l = sym (length-append (header_octets flags kind len) a.value) ∙ ap length (parts_are a flags kind len f k l)

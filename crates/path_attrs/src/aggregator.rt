@@ -7,6 +7,7 @@ ghost use Rattle.path_attrs.specs.Appending.{Appends};
 ghost use Rattle.path_attrs.specs.Aggregators.{aggregator_octets};
 
 use crate::numbers::{AsNumber, NUMBER_LEN, put_number, put_u32, split_number, split_u32};
+use octet_room::Room;
 use rcp_base::Addr;
 
 /// How many octets an aggregator has.
@@ -38,9 +39,12 @@ impl Aggregator {
     }
 
     /// Puts an aggregator at a place, and gives the place after it.
-    pub fn put(self, out: &mut [u8], at: usize) -> usize
-        requires { at + (byte_len number_width + 4) ≤ length out.old }
-        ensures { Appends out.old at out.new result (aggregator_octets self) }
+    pub fn put<R: Room>(self, out: &mut R, at: usize) -> usize
+        requires place { R.is_place out.old at }
+        requires room { at + (byte_len number_width + 4) ≤ R.size out.old }
+        ensures appends { Appends (R.octets out.old) at (R.octets out.new) result (aggregator_octets self) }
+        ensures place { R.is_place out.new result }
+        ensures size { R.size out.old ≤ R.size out.new }
     {
         let at = put_number(out, at, self.as_number);
         put_u32(out, at, self.speaker.0)

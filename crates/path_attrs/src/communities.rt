@@ -6,6 +6,7 @@ ghost use Rattle.std.specs.List.{flat_map};
 ghost use Rattle.path_attrs.specs.Appending.{Appends};
 
 use crate::numbers::{put_u32, split_u32};
+use octet_room::Room;
 use std::alloc::{AllocError, Global};
 
 /// The numbers of octets that are whole numbers.
@@ -31,9 +32,12 @@ pub fn communities_len(numbers: &[u32]) -> usize
 }
 
 /// Puts numbers of four octets at a place, and gives the place after them.
-pub fn put_communities(out: &mut [u8], at: usize, numbers: &[u32]) -> usize
-    requires { at + length (flat_map (to_be_bytes w32) numbers.now) ≤ length out.old }
-    ensures { Appends out.old at out.new result (flat_map (to_be_bytes w32) numbers.now) }
+pub fn put_communities<R: Room>(out: &mut R, at: usize, numbers: &[u32]) -> usize
+    requires place { R.is_place out.old at }
+    requires room { at + length (flat_map (to_be_bytes w32) numbers.now) ≤ R.size out.old }
+    ensures appends { Appends (R.octets out.old) at (R.octets out.new) result (flat_map (to_be_bytes w32) numbers.now) }
+    ensures place { R.is_place out.new result }
+    ensures size { R.size out.old ≤ R.size out.new }
 {
     let mut end = at;
     for number in numbers {

@@ -30,7 +30,6 @@ mod laws;
 mod numbers;
 mod origin;
 mod path;
-mod put;
 mod reading;
 mod refusal;
 mod routes;

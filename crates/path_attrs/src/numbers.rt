@@ -6,7 +6,7 @@ ghost use Rattle.rcp_model.specs.Attributes.{numbers_in, number_width};
 ghost use Rattle.path_attrs.specs.Appending.{Appends};
 ghost use Rattle.path_attrs.specs.Width.{number_octets};
 
-use crate::put::put;
+use octet_room::Room;
 
 /// An AS number of AS_PATH and AGGREGATOR (RFC 4271, section 4.3).
 pub type AsNumber = u16;
@@ -29,11 +29,14 @@ pub fn split_number(octets: &[u8]) -> Option<(AsNumber, &[u8])>
 }
 
 /// Puts an AS number at a place, and gives the place after it.
-pub fn put_number(out: &mut [u8], at: usize, number: AsNumber) -> usize
-    requires { at + byte_len number_width ≤ length out.old }
-    ensures { Appends out.old at out.new result (number_octets number) }
+pub fn put_number<R: Room>(out: &mut R, at: usize, number: AsNumber) -> usize
+    requires place { R.is_place out.old at }
+    requires room { at + byte_len number_width ≤ R.size out.old }
+    ensures appends { Appends (R.octets out.old) at (R.octets out.new) result (number_octets number) }
+    ensures place { R.is_place out.new result }
+    ensures size { R.size out.old ≤ R.size out.new }
 {
-    put(out, at, &number.to_be_bytes())
+    out.put(at, &number.to_be_bytes())
 }
 
 /// The number of four octets at the front and the octets after it, or None where they are too few.
@@ -48,9 +51,12 @@ pub fn split_u32(octets: &[u8]) -> Option<(u32, &[u8])>
 }
 
 /// Puts a number of four octets at a place, and gives the place after it.
-pub fn put_u32(out: &mut [u8], at: usize, number: u32) -> usize
-    requires { at + 4 ≤ length out.old }
-    ensures { Appends out.old at out.new result (to_be_bytes w32 number) }
+pub fn put_u32<R: Room>(out: &mut R, at: usize, number: u32) -> usize
+    requires place { R.is_place out.old at }
+    requires room { at + 4 ≤ R.size out.old }
+    ensures appends { Appends (R.octets out.old) at (R.octets out.new) result (to_be_bytes w32 number) }
+    ensures place { R.is_place out.new result }
+    ensures size { R.size out.old ≤ R.size out.new }
 {
-    put(out, at, &number.to_be_bytes())
+    out.put(at, &number.to_be_bytes())
 }

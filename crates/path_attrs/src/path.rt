@@ -11,7 +11,7 @@ ghost use Rattle.rcp_model.specs.Routes.{hops_of, neighbour_of};
 ghost use Rattle.path_attrs.specs.Width.{number_octets};
 
 use crate::numbers::{AsNumber, NUMBER_LEN, put_number, split_number};
-use crate::put::put;
+use octet_room::Room;
 use smallvec::SmallVec;
 use std::alloc::{AllocError, Global};
 use std::default::MadeWith;
@@ -113,9 +113,12 @@ impl Path {
     }
 
     /// Puts the path at a place, and gives the place after it.
-    pub fn put(&self, out: &mut [u8], at: usize) -> usize
-        requires { at + length (path_octets self.now) ≤ length out.old }
-        ensures { Appends out.old at out.new result (path_octets self.now) }
+    pub fn put<R: Room>(&self, out: &mut R, at: usize) -> usize
+        requires place { R.is_place out.old at }
+        requires room { at + length (path_octets self.now) ≤ R.size out.old }
+        ensures appends { Appends (R.octets out.old) at (R.octets out.new) result (path_octets self.now) }
+        ensures place { R.is_place out.new result }
+        ensures size { R.size out.old ≤ R.size out.new }
     {
         put_segments(out, at, self.segments.as_slice())
     }
@@ -163,11 +166,14 @@ impl Segment {
     }
 
     /// Puts the segment at a place, and gives the place after it.
-    fn put(&self, out: &mut [u8], at: usize) -> usize
-        requires { at + length (segment_octets self.now) ≤ length out.old }
-        ensures { Appends out.old at out.new result (segment_octets self.now) }
+    fn put<R: Room>(&self, out: &mut R, at: usize) -> usize
+        requires place { R.is_place out.old at }
+        requires room { at + length (segment_octets self.now) ≤ R.size out.old }
+        ensures appends { Appends (R.octets out.old) at (R.octets out.new) result (segment_octets self.now) }
+        ensures place { R.is_place out.new result }
+        ensures size { R.size out.old ≤ R.size out.new }
     {
-        let at = put(out, at, &[self.kind as u8, self.numbers.len() as u8]);
+        let at = out.put(at, &[self.kind as u8, self.numbers.len() as u8]);
         put_numbers(out, at, self.numbers.as_slice())
     }
 
@@ -300,9 +306,12 @@ fn segments_len(segments: &[Segment]) -> usize
 }
 
 /// Puts segments at a place, and gives the place after them.
-fn put_segments(out: &mut [u8], at: usize, segments: &[Segment]) -> usize
-    requires { at + length (path_octets segments.now) ≤ length out.old }
-    ensures { Appends out.old at out.new result (path_octets segments.now) }
+fn put_segments<R: Room>(out: &mut R, at: usize, segments: &[Segment]) -> usize
+    requires place { R.is_place out.old at }
+    requires room { at + length (path_octets segments.now) ≤ R.size out.old }
+    ensures appends { Appends (R.octets out.old) at (R.octets out.new) result (path_octets segments.now) }
+    ensures place { R.is_place out.new result }
+    ensures size { R.size out.old ≤ R.size out.new }
 {
     let mut end = at;
     for segment in segments {
@@ -312,9 +321,12 @@ fn put_segments(out: &mut [u8], at: usize, segments: &[Segment]) -> usize
 }
 
 /// Puts AS numbers at a place, and gives the place after them.
-fn put_numbers(out: &mut [u8], at: usize, numbers: &[AsNumber]) -> usize
-    requires { at + length (flat_map number_octets numbers.now) ≤ length out.old }
-    ensures { Appends out.old at out.new result (flat_map number_octets numbers.now) }
+fn put_numbers<R: Room>(out: &mut R, at: usize, numbers: &[AsNumber]) -> usize
+    requires place { R.is_place out.old at }
+    requires room { at + length (flat_map number_octets numbers.now) ≤ R.size out.old }
+    ensures appends { Appends (R.octets out.old) at (R.octets out.new) result (flat_map number_octets numbers.now) }
+    ensures place { R.is_place out.new result }
+    ensures size { R.size out.old ≤ R.size out.new }
 {
     let mut end = at;
     for number in numbers {

@@ -13,7 +13,6 @@ use crate::flags::{EXTENDED, OPTIONAL, PARTIAL, TRANSITIVE, is_partial};
 use crate::numbers::{put_u32, split_u32};
 use crate::origin::Origin;
 use crate::path::{Path, is_malformed};
-use crate::put::put;
 use crate::refusal::fault_if;
 use crate::table::{
     AGGREGATOR, AS_PATH, ATOMIC_AGGREGATE, COMMUNITIES, LOCAL_PREF, MULTI_EXIT_DISC, NEXT_HOP,
@@ -25,6 +24,7 @@ use bgp_fault::{
     OPTIONAL_ATTRIBUTE_ERROR,
 };
 use case_table::cases;
+use octet_room::Room;
 use rcp_base::Addr;
 use std::alloc::{AllocError, Global};
 
@@ -139,29 +139,35 @@ impl Value {
     }
 
     /// Puts the attribute at a place, and gives the place after it.
-    pub fn put(&self, out: &mut [u8], at: usize) -> usize
+    pub fn put<R: Room>(&self, out: &mut R, at: usize) -> usize
         requires short { length (shown self.now).value < 2 ^ 16 }
-        requires room { at + length (attribute_octets (shown self.now)) ≤ length out.old }
-        ensures { Appends out.old at out.new result (attribute_octets (shown self.now)) }
+        requires place { R.is_place out.old at }
+        requires room { at + length (attribute_octets (shown self.now)) ≤ R.size out.old }
+        ensures appends { Appends (R.octets out.old) at (R.octets out.new) result (attribute_octets (shown self.now)) }
+        ensures place { R.is_place out.new result }
+        ensures size { R.size out.old ≤ R.size out.new }
     {
         let at = put_header(out, at, self.flags(), self.kind(), self.value_len());
         self.put_value(out, at)
     }
 
     /// Puts the octets of the value.
-    fn put_value(&self, out: &mut [u8], at: usize) -> usize
-        requires { at + length (shown self.now).value ≤ length out.old }
-        ensures { Appends out.old at out.new result (shown self.now).value }
+    fn put_value<R: Room>(&self, out: &mut R, at: usize) -> usize
+        requires place { R.is_place out.old at }
+        requires room { at + length (shown self.now).value ≤ R.size out.old }
+        ensures appends { Appends (R.octets out.old) at (R.octets out.new) result (shown self.now).value }
+        ensures place { R.is_place out.new result }
+        ensures size { R.size out.old ≤ R.size out.new }
     {
         match self {
-            Value::Origin(origin) => put(out, at, &[origin.octet()]),
+            Value::Origin(origin) => out.put(at, &[origin.octet()]),
             Value::AsPath(path) => path.put(out, at),
             Value::NextHop(addr) => put_u32(out, at, addr.0),
             Value::MultiExitDisc(number) | Value::LocalPref(number) => put_u32(out, at, *number),
             Value::AtomicAggregate => at,
             Value::Aggregator { aggregator, .. } => aggregator.put(out, at),
             Value::Communities { numbers, .. } => put_communities(out, at, numbers),
-            Value::Unrecognised(other) => put(out, at, &other.octets),
+            Value::Unrecognised(other) => out.put(at, &other.octets),
         }
     }
 }
@@ -205,16 +211,19 @@ fn with_partial(partial: bool) -> u8
 }
 
 /// Puts flags, type and length: one octet of length where it suffices.
-fn put_header(out: &mut [u8], at: usize, flags: u8, kind: u8, len: usize) -> usize
+fn put_header<R: Room>(out: &mut R, at: usize, flags: u8, kind: u8, len: usize) -> usize
     requires flags { flags < 240 }
     requires short { len < 2 ^ 16 }
-    requires room { at + length (header_octets flags kind len) ≤ length out.old }
-    ensures { Appends out.old at out.new result (header_octets flags kind len) }
+    requires place { R.is_place out.old at }
+    requires room { at + length (header_octets flags kind len) ≤ R.size out.old }
+    ensures appends { Appends (R.octets out.old) at (R.octets out.new) result (header_octets flags kind len) }
+    ensures place { R.is_place out.new result }
+    ensures size { R.size out.old ≤ R.size out.new }
 {
     if len <= 255 {
-        put(out, at, &[flags, kind, len as u8])
+        out.put(at, &[flags, kind, len as u8])
     } else {
         let [high, low] = (len as u16).to_be_bytes();
-        put(out, at, &[flags + EXTENDED, kind, high, low])
+        out.put(at, &[flags + EXTENDED, kind, high, low])
     }
 }

@@ -9,6 +9,7 @@ ghost use Rattle.path_attrs.specs.Shown.{all_shown};
 use crate::attrs::{Attrs, is_there, place_of};
 use crate::table::LOCAL_PREF;
 use crate::value::Value;
+use octet_room::Room;
 use std::alloc::{AllocError, Global};
 
 /// LOCAL_PREF where it is absent.
@@ -33,7 +34,7 @@ pub fn canonical_octets(alloc: Global, attrs: &Attrs) -> Result<Vec<u8>, AllocEr
     ensures { IfOk result (λ octets. octets.items ≡ canonical_octets attrs.now) }
 {
     let values = attrs.values();
-    let mut octets = vec![in alloc; 0; canonical_len(values)]?;
+    let mut octets = Vec::with_capacity(alloc, canonical_len(values))?;
     put_canonical(values, &mut octets);
     Ok(octets)
 }
@@ -64,12 +65,14 @@ fn values_len(values: &[Value]) -> usize
 }
 
 /// Puts the canonical form of values at the front, and gives how many octets it has.
-fn put_canonical(values: &[Value], out: &mut [u8]) -> usize
+fn put_canonical<R: Room>(values: &[Value], out: &mut R) -> usize
     requires kept { IsKept (all_shown values.now) }
-    requires room { length (canonical_octets (all_shown values.now)) ≤ length out.old }
-    ensures octets { take result out.new ≡ canonical_octets (all_shown values.now) }
+    requires place { R.is_place out.old 0 }
+    requires room { length (canonical_octets (all_shown values.now)) ≤ R.size out.old }
+    ensures octets { take result (R.octets out.new) ≡ canonical_octets (all_shown values.now) }
     ensures len { result ≡ length (canonical_octets (all_shown values.now)) }
     ensures short { result ≤ 4080 }
+    ensures place { R.is_place out.new result }
 {
     let place = place_of(values, LOCAL_PREF);
     let (before, after) = values.split_at(place);
@@ -79,10 +82,13 @@ fn put_canonical(values: &[Value], out: &mut [u8]) -> usize
 }
 
 /// Puts values one after another, and gives the place after them.
-fn put_values(out: &mut [u8], at: usize, values: &[Value]) -> usize
+fn put_values<R: Room>(out: &mut R, at: usize, values: &[Value]) -> usize
     requires short { length (octets_of (all_shown values.now)) < 2 ^ 16 }
-    requires room { at + length (octets_of (all_shown values.now)) ≤ length out.old }
-    ensures { Appends out.old at out.new result (octets_of (all_shown values.now)) }
+    requires place { R.is_place out.old at }
+    requires room { at + length (octets_of (all_shown values.now)) ≤ R.size out.old }
+    ensures appends { Appends (R.octets out.old) at (R.octets out.new) result (octets_of (all_shown values.now)) }
+    ensures place { R.is_place out.new result }
+    ensures size { R.size out.old ≤ R.size out.new }
 {
     let mut end = at;
     for value in values {
@@ -92,9 +98,12 @@ fn put_values(out: &mut [u8], at: usize, values: &[Value]) -> usize
 }
 
 /// Puts LOCAL_PREF where it is absent, and gives the place after it.
-fn put_default(out: &mut [u8], at: usize, there: bool) -> usize
-    requires { at + length (if there then [] else attribute_octets default_pref) ≤ length out.old }
-    ensures { Appends out.old at out.new result (if there then [] else attribute_octets default_pref) }
+fn put_default<R: Room>(out: &mut R, at: usize, there: bool) -> usize
+    requires place { R.is_place out.old at }
+    requires room { at + length (if there then [] else attribute_octets default_pref) ≤ R.size out.old }
+    ensures appends { Appends (R.octets out.old) at (R.octets out.new) result (if there then [] else attribute_octets default_pref) }
+    ensures place { R.is_place out.new result }
+    ensures size { R.size out.old ≤ R.size out.new }
 {
     if there {
         at
