@@ -136,13 +136,13 @@ wired shards slots boxes senders room boxes' senders' room' all rows last mails 
   numbers = numbers;
   from_seats = λ slot shard seat sender worker within below.
       seat_box boxes senders room shards rows all last mails mesh is slot shard (get_or seats slot seat).shards sender (mail shard below) (omega (arith, within, counted, many)) (omega (arith, below, wide))
-          (ends slot seat last within)
+      (ends slot seat last within)
       ∙ sym (box shard worker below);
   from_viewer = λ shard sender worker below.
       viewer_box boxes senders room shards rows all last mails mesh is shard sender (mail shard below) (omega (arith, below, wide)) ∙ sym (box shard worker below);
   to_seats = λ slot shard seat port worker within below.
       port_box boxes' senders' room' offers takers mesh' slot shard port (get_or workers shard worker).ports (taker slot within) (omega (arith, within, wide')) (omega (arith, below, many'))
-          (λ row. ports shard worker row below)
+      (λ row. ports shard worker row below)
       ∙ sym (ap mailbox_at (taking slot seat (taker slot within) within));
 }
   where

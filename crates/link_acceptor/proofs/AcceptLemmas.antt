@@ -1,5 +1,5 @@
 -- A count that rises link by link.
-use Rattle.std.proofs.Common.{◌≡◌, ◌⊎◌, ℕ, ◌+◌, ◌-◌, ◌^◌, ◌≤◌, ◌<◌, min, inl, inr, arith, sym, ap, ◌∙◌}
+use Rattle.std.proofs.Common.{◌≡◌, ◌⊎◌, ℕ, ◌+◌, ◌-◌, ◌^◌, inl, inr, arith, ◌∙◌}
 use Rattle.std.proofs.lemmas.Bool.{cases_lt}
 use Rattle.outside.specs.Told.{raised}
 use Rattle.link_acceptor.specs.Accepting.{RoseBy, RoseOnce}

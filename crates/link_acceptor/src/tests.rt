@@ -36,6 +36,9 @@ fn a_queue_hands_links_on_in_their_order_and_one_that_is_full_hands_it_back(
     assert_eq!(rt; queue.push(&rt, 'b'), Ok(()));
     assert_eq!(rt; queue.push(&rt, 'c'), Err('c'));
     queue.rest(&rt, 1);
-    assert_eq!(rt; [queue.pop(&rt), queue.pop(&rt), queue.pop(&rt)], [Some('a'), Some('b'), None]);
+    assert_eq!(rt;
+        [queue.pop(&rt), queue.pop(&rt), queue.pop(&rt)],
+        [Some('a'), Some('b'), None]
+    );
     Ok(())
 }

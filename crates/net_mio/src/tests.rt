@@ -110,7 +110,9 @@ fn is_woken<L: Link, C: Clock>(clock: &C, link: &mut L, seconds: u32) -> bool {
 }
 
 #[test]
-fn a_gate_that_is_passed_at_its_first_point_ends_the_waiting_of_a_link(rt: HostRuntime) -> Result<(), Fail> {
+fn a_gate_that_is_passed_at_its_first_point_ends_the_waiting_of_a_link(
+    rt: HostRuntime,
+) -> Result<(), Fail> {
     let bell = Bell::new(&rt)?;
     let bell = Arc::new(rt.alloc(), bell)?;
     let gate = BellGate::new(bell.clone()?, 7);

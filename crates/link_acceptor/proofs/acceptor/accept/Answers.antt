@@ -1,4 +1,4 @@
-use Rattle.std.proofs.Common.{ap, sym, subst, ◌∙◌, ℕ, rules, arith}
+use Rattle.std.proofs.Common.{sym, subst, ◌∙◌, ℕ, arith}
 use Rattle.link_acceptor.specs.Accepting.{RoseBy}
 use Rattle.link_acceptor.proofs.AcceptLemmas.{rose_on, rose_then}
 use Rattle.link_acceptor.proofs.acceptor.accept.Goals as goal

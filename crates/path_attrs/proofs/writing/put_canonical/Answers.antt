@@ -42,19 +42,19 @@ pub returns-clause-octets : goal.returns-clause-octets
 returns-clause-octets g c =
     let all = Appends-then _ _ _ _ _ _ _ _ (Appends-then _ _ _ _ _ _ _ _ c.put_values-at.ensures.appends c.put_default-at.ensures.appends) c.put_values.ensures.appends in
     let are = parts_are_canonical c.args.values.now c.split_at.result.0.now c.split_at.result.1.now c.place_of-place.result c.is_there.result c.requires.kept c.is_there.ensures
-          (c.place_of-place.ensures.place default_pref refl) c.split_at.ensures.front c.split_at.ensures.back in
+    (c.place_of-place.ensures.place default_pref refl) c.split_at.ensures.front c.split_at.ensures.back in
     all.octets_are ∙ sym are
 
 pub returns-clause-len : goal.returns-clause-len
 returns-clause-len g c =
     let all = Appends-then _ _ _ _ _ _ _ _ (Appends-then _ _ _ _ _ _ _ _ c.put_values-at.ensures.appends c.put_default-at.ensures.appends) c.put_values.ensures.appends in
     let are = parts_are_canonical c.args.values.now c.split_at.result.0.now c.split_at.result.1.now c.place_of-place.result c.is_there.result c.requires.kept c.is_there.ensures
-          (c.place_of-place.ensures.place default_pref refl) c.split_at.ensures.front c.split_at.ensures.back in
+    (c.place_of-place.ensures.place default_pref refl) c.split_at.ensures.front c.split_at.ensures.back in
     omega (arith, all.end_is, ap length are)
 
 pub returns-clause-short : goal.returns-clause-short
 returns-clause-short g c =
     let all = Appends-then _ _ _ _ _ _ _ _ (Appends-then _ _ _ _ _ _ _ _ c.put_values-at.ensures.appends c.put_default-at.ensures.appends) c.put_values.ensures.appends in
     let are = parts_are_canonical c.args.values.now c.split_at.result.0.now c.split_at.result.1.now c.place_of-place.result c.is_there.result c.requires.kept c.is_there.ensures
-          (c.place_of-place.ensures.place default_pref refl) c.split_at.ensures.front c.split_at.ensures.back in
+    (c.place_of-place.ensures.place default_pref refl) c.split_at.ensures.front c.split_at.ensures.back in
     omega (arith, all.end_is, ap length are, canonical_short c.args.values.now c.requires.kept)

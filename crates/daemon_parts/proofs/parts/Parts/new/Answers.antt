@@ -18,7 +18,7 @@ returns-clause-viewer g c = viewer_ends _ _ _ _ _ _ _ _ c.in_ok-to_shards.ensure
 pub returns-clause-wired : goal.returns-clause-wired
 returns-clause-wired g c =
     wired _ _ _ _ _ _ _ _ _ _ _ _ _ _ _ _ c.in_ok-to_shards.ensures c.in-Some.ensures.items c.in_ok-to_routers.ensures
-        (grind (arith, c.from-shards.ensures, c.shards.ensures.value)) (grind (arith, c.from.ensures, c.len-2.ensures.len)) (grind (arith, c.from-routers.ensures, c.len.ensures.len)) (grind (arith, c.from-2.ensures, c.shards-2.ensures.value))
-        c.in_ok-workers_of.ensures.numbers c.in_ok-workers_of.ensures.mails c.in_ok-workers_of.ensures.offers
-        (λ slot seat row within. c.in_ok-seats_of.ensures.rows slot seat row (omega (arith, within, c.len-3.ensures.len)))
-        (λ slot seat receiver within. c.in_ok-seats_of.ensures.receivers slot seat receiver (omega (arith, within, c.len-3.ensures.len)))
+    (grind (arith, c.from-shards.ensures, c.shards.ensures.value)) (grind (arith, c.from.ensures, c.len-2.ensures.len)) (grind (arith, c.from-routers.ensures, c.len.ensures.len)) (grind (arith, c.from-2.ensures, c.shards-2.ensures.value))
+    c.in_ok-workers_of.ensures.numbers c.in_ok-workers_of.ensures.mails c.in_ok-workers_of.ensures.offers
+    (λ slot seat row within. c.in_ok-seats_of.ensures.rows slot seat row (omega (arith, within, c.len-3.ensures.len)))
+    (λ slot seat receiver within. c.in_ok-seats_of.ensures.receivers slot seat receiver (omega (arith, within, c.len-3.ensures.len)))
