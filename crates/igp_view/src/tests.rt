@@ -37,7 +37,7 @@ fn roster_of(alloc: Global, text: &[u8]) -> Result<Roster, Fail> {
     if text.len() > 65536 {
         return Err("a long text".into());
     }
-    Ok(read(alloc, text)?)
+    Ok(read(alloc, text).map_err(|_| "a roster")?)
 }
 
 /// The LSA of a router with point-to-point links.

@@ -38,7 +38,7 @@ pub fn new(alloc: Global, text: &[u8]) -> Result<Platform, Fail> {
     if text.len() > 65536 {
         return Err("a long roster")?;
     }
-    let roster = read(alloc, text)?;
+    let roster = read(alloc, text).map_err(|_| "no roster")?;
     Ok(Platform::new(alloc, roster)?)
 }
 

@@ -35,7 +35,7 @@ fn route_of(alloc: Global, octets: &[u8]) -> Result<Route, Fail> {
     if octets.len() > 4073 {
         return Err(Fail::from("many octets"));
     }
-    let attrs = read(alloc, octets, true)?;
+    let attrs = read(alloc, octets, true).map_err(|_| "attributes")?;
     Ok(route(alloc, &attrs, 65000)?)
 }
 
